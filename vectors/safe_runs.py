@@ -22,7 +22,7 @@ import subprocess
 import sys
 import tempfile
 import time
-from typing import Callable, List
+from typing import Callable, List, Tuple
 
 from parties import HELLO_BYTES, Room, Subject
 from processes import STARTED, Process, Ran, Service, end_all
@@ -155,6 +155,13 @@ def place_of(process: "subprocess.Popen[str]") -> str:
     return place
 
 
+def rest_of(process: "subprocess.Popen[str]") -> Tuple[str, str]:
+    """What it still writes to its output and to who follows it, up to its end: also what was read ahead of a line."""
+    rest = process.stdout.read(), process.stderr.read()
+    process.wait()
+    return rest
+
+
 def kept_evidence(room: Room) -> None:
     process = followed(room, 2, "--logs", "kept")
     place = place_of(process)
@@ -163,7 +170,7 @@ def kept_evidence(room: Room) -> None:
     assert first == Ran("units 0..1 accepted\n", 0), first
     assert process.stderr.readline() == "units 0..1 accepted\n"
     process.kill()  # with a session still to come: no line is on the output
-    assert process.communicate() == ("", "")
+    assert rest_of(process) == ("", "")
     found = room.run("audit", "circuit", room.outputs, "p0", "x.verifier", "kept.0")
     assert found == Ran("inputs 11\n", 0), found
 
@@ -174,7 +181,8 @@ def followed_to_the_end(room: Room) -> None:
     for holder in room.holders[:2]:
         assert prover(room, place, holder).end().status == 0
     lines = "units 0..1 accepted\nunits 1..2 accepted\n"
-    assert process.communicate() == (lines, f"left {room.total} sessions {room.total}\n" + lines)
+    found = rest_of(process)
+    assert found == (lines, f"left {room.total} sessions {room.total}\n" + lines), found
 
 
 def status_of_files(room: Room) -> None:

@@ -2,7 +2,7 @@
 """What `crates/session_runs` is run on and what it must write, computed apart from the program.
 
 That program takes a scenario from each line of its input: whose session it is, and words `name=value`, as its first comment says. It
-writes the line, and a line for each session. `session_runs.py --write` writes the scenarios to the file `stdin` there, what must be
+writes the line, and a line for each session. Behind the scenarios stand the command lines of `stored_runs.py`. `session_runs.py --write` writes the scenarios to the file `stdin` there, what must be
 written to `stdout`, and the circuits that the scenarios are about to `data`. Without it the script compares them with what stands there; it
 prints what differs, and ends with 1 where anything does.
 
@@ -19,6 +19,7 @@ from typing import Callable, Dict, Iterable, Iterator, List, NamedTuple, Optiona
 import bristol
 import dealt_files
 import program
+import stored_runs
 from auditor import audit
 from chacha import word
 from common import KEY, P, VERIFIER_COINS, dealt_correlations, element, frame, from_word, sha256
@@ -1437,9 +1438,11 @@ def main() -> int:
     written = {scenario.line(): lines_of(scenario) for scenario in scenarios}
     assert len(written) == len(scenarios), "a line stands twice"
     check_published(written)
+    stored = [(f"zk {run.words}", [*run.lines, f"status {run.status}"]) for run in stored_runs.all_runs()]
+    entries = [*written.items(), *stored]
     files = {
-        "stdin": "".join(f"{scenario.line()}\n" for scenario in scenarios).encode(),
-        "stdout": "".join(f"{given}\n" + "".join(f"{each}\n" for each in lines) for given, lines in written.items()).encode(),
+        "stdin": "".join(f"{given}\n" for given, _ in entries).encode(),
+        "stdout": "".join(f"{given}\n" + "".join(f"{each}\n" for each in lines) for given, lines in entries).encode(),
         **{f"data/{name}": text for name, text in CIRCUITS.items()},
     }
     if sys.argv[1:] == ["--write"]:

@@ -1,11 +1,9 @@
 #!/usr/bin/env python3
-"""What `crates/stored_runs` is run on and what it must write, computed apart from the program.
+"""The command lines that `crates/session_runs` runs over real files and what they must write, computed apart from the program.
 
-That program takes a command line from each line of its input and writes what the command prints, then `status N`.
-`stored_runs.py --stdin` prints the command lines, `stored_runs.py --stdout` what must be written, and `stored_runs.py
---alone` the dealt file in `data`. With none it compares these with the files `stdin` and `stdout` that stand there and
-with that of `data`, and the circuits in `data` with those in `examples`; it prints what differs, and ends with 1 where
-anything does.
+`session_runs.py` has them in the input of that program, each behind `zk `, and what they write in its output, with `status N` behind
+it. `stored_runs.py --write` writes the dealt file that they take to `data` there, and copies the circuits of `examples`. Without it the
+script compares these with what stands there; it prints what differs, and ends with 1 where anything does.
 
 Outputs come from what each circuit is for: sums, comparisons, the vectors of AES in FIPS 197 (2001). Faults stand here
 as they follow from the rules in `bristol.py`. That module must find the same of each; from it come the numbers of
@@ -29,8 +27,7 @@ FILE_ID = common.FILE_ID.hex()
 ALONE = "alone.verifier"
 
 TOP = pathlib.Path(__file__).resolve().parent.parent
-CRATE = TOP / "crates" / "stored_runs"
-DATA = CRATE / "data"
+DATA = TOP / "crates" / "session_runs" / "data"
 EXAMPLES = TOP / "examples"
 
 ONES = 2**64 - 1
@@ -247,7 +244,7 @@ def small_cases() -> List[Case]:
     pairs = [(a, b) for a in (0, 1) for b in (0, 1)]
     cases = [Case(file, f"{a}{b}", f"{a & b}") for file in ("and.txt", "and_one_line.txt") for a, b in pairs]
     cases += [gates_case(a, b) for a, b in pairs]
-    cases += [Case("constant.txt", "none", "1")] + [Case("no_outputs.txt", bit, "none") for bit in "01"]
+    cases += [Case("constant.txt", "none", "1")] + [Case("no_gates.txt", bit, "none") for bit in "01"]
     cases += [Case("adder64.txt", low_first(a) + low_first(b), low_first((a + b) % 2**64)) for a, b in SUMS]
     return cases + [Case("ge64.txt", low_first(a) + low_first(b), str(int(a >= b))) for a, b in COMPARISONS]
 
@@ -423,7 +420,7 @@ def sections() -> List[Run]:
 
 def extensions() -> List[Run]:
     """Rehearsals over files of kind extended: of one unit, of several, and at a refusal."""
-    small = [case for case in small_cases() if case.file in ("and.txt", "constant.txt", "no_outputs.txt", "gates.txt")]
+    small = [case for case in small_cases() if case.file in ("and.txt", "constant.txt", "no_gates.txt", "gates.txt")]
     adder = next(case for case in small_cases() if case.file == "adder64.txt")
     aes = aes_case(*AES_B)
     runs = [rehearse_run(case, None, True) for case in small]
@@ -464,7 +461,7 @@ def services() -> List[Run]:
     has no journal. All of their journals are new."""
     given: List[Tuple[str, List[str], int]] = [
         ("z.verifier and.txt 1", [], 0),
-        ("z.verifier no_outputs.txt none", [], 0),
+        ("z.verifier no_gates.txt none", [], 0),
         ("z.verifier and.txt 10", ["refused outputs 1 2"], 3),
         ("z.verifier and.txt none", ["refused outputs 1 0"], 3),
         ("z.prover and.txt 1", ["refused BadKind 2"], 3),
@@ -514,7 +511,7 @@ def proofs() -> List[Run]:
         ("z.prover and.txt 11 1", [connected], 4),
         ("z.prover and.txt 10 0", [connected], 4),
         ("z.prover and.txt 11 1 --timeout 086400", [connected], 4),
-        ("z.prover no_outputs.txt 0 none", [connected], 4),
+        ("z.prover no_gates.txt 0 none", [connected], 4),
         ("z.prover constant.txt none 1", [connected], 4),
         ("y.prover and.txt 11 1", [connected], 4),
         (f"z.prover aes128.txt {aes.bits} {aes.outputs}", [connected], 4),
@@ -538,7 +535,7 @@ def proofs() -> List[Run]:
 
 def too_large() -> List[Run]:
     """A session of one unit more than there may be: a product for each input, and one section."""
-    file = "many_inputs.txt"
+    file = "unit_too_many.txt"
     circuit = bristol.read((DATA / file).read_bytes())
     assert isinstance(circuit, bristol.Circuit)
     need = circuit.inputs + 1
@@ -562,31 +559,18 @@ def alone() -> bytes:
     return dealt_files.deal(dealt_files.DIRECT)[1]
 
 
-def differences(given: str, written: str) -> List[str]:
-    """The files that are not as they must be."""
-    wrong = [name for name, text in (("stdin", given), ("stdout", written)) if (CRATE / name).read_text() != text]
-    if (DATA / ALONE).read_bytes() != alone():
-        wrong.append(f"data/{ALONE}")
-    copies = sorted(path.name for path in EXAMPLES.glob("*.txt"))
-    return wrong + [f"data/{name}" for name in copies if (DATA / name).read_bytes() != (EXAMPLES / name).read_bytes()]
-
-
 def main() -> int:
-    runs = all_runs()
-    given = "".join(run.words + "\n" for run in runs)
-    written = "".join("\n".join(run.lines + [f"status {run.status}"]) + "\n" for run in runs)
-    if sys.argv[1:] in (["--stdin"], ["--stdout"]):
-        sys.stdout.write(given if sys.argv[1] == "--stdin" else written)
-        return 0
-    if sys.argv[1:] == ["--alone"]:
-        sys.stdout.buffer.write(alone())
-        return 0
-    if sys.argv[1:]:
-        sys.exit("stored_runs.py [--stdin | --stdout | --alone]")
-    wrong = differences(given, written)
+    files = {path.name: path.read_bytes() for path in EXAMPLES.glob("*.txt")}
+    files[ALONE] = alone()
+    if sys.argv[1:] == ["--write"]:
+        for name, data in files.items():
+            (DATA / name).write_bytes(data)
+    elif sys.argv[1:]:
+        sys.exit("stored_runs.py [--write]")
+    wrong = sorted(name for name, data in files.items() if not (DATA / name).exists() or (DATA / name).read_bytes() != data)
     for name in wrong:
-        print(f"crates/stored_runs/{name} is not as it must be")
-    print(f"{len(runs)} runs, {len(wrong)} files that differ")
+        print(f"crates/session_runs/data/{name} is not as it must be")
+    print(f"{len(all_runs())} runs, {len(wrong)} files that differ")
     return 1 if wrong else 0
 
 

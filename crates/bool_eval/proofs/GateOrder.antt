@@ -2,7 +2,7 @@
 use Rattle.std.proofs.Common.{◌≡◌, ◌≢◌, ℕ, ◌<◌, ◌≤◌, inl, inr, arith, subst}
 use Rattle.std.specs.Prelude.{All, Some, slice_get}
 use Rattle.std.proofs.lemmas.List.Elements.{recursion_from_All}
-use Rattle.bool_eval.specs.GateBits.{IsWithin}
+use Rattle.bool_eval.specs.GateBits.{HasWiresBelow}
 use Rattle.zk_model.specs.Circuit.{Circuit, IsSet, IsWellFormed, wire_set, wires_read}
 use Rattle.zk_model.specs.declared.GateRow.{GateRow}
 
@@ -54,7 +54,7 @@ set_within circuit n wire order (inl input) = omega (arith, order.inputs_within)
 set_within circuit n wire order (inr by) = subst (λ (w : ℕ). w < circuit.wires) by.4 (order.sets_within by.0 by.1 by.3)
 
 -- and so are those of a gate
-pub gate_within : (circuit : Circuit) (n : ℕ) (gate : GateRow) → IsWellFormed circuit → slice_get circuit.gates n ≡ Some gate → IsWithin circuit.wires gate
+pub gate_within : (circuit : Circuit) (n : ℕ) (gate : GateRow) → IsWellFormed circuit → slice_get circuit.gates n ≡ Some gate → HasWiresBelow circuit.wires gate
 gate_within circuit n gate order is = (
   order.sets_within n gate is,
   recursion_from_All (λ wire. wire < circuit.wires) (wires_read gate) (λ i d below. set_within circuit n _ order (order.reads_set n gate is i d below)),

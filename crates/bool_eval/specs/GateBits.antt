@@ -5,8 +5,8 @@ use Rattle.zk_model.specs.Circuit.{Circuit, IsSet, bit_of, wire_set, wires_read}
 use Rattle.zk_model.specs.declared.GateRow.{GateRow}
 
 -- the wires of a gate are below a number of wires
-abbrev pub IsWithin : ℕ → GateRow → Type 0
-IsWithin wires gate = (wire_set gate < wires) × AllByRecursion (λ wire. wire < wires) (wires_read gate)
+abbrev pub HasWiresBelow : ℕ → GateRow → Type 0
+HasWiresBelow wires gate = (wire_set gate < wires) × AllByRecursion (λ wire. wire < wires) (wires_read gate)
 
 -- all bits but the first n are 0
 abbrev pub AreBlankBehind : ℕ → List Bool → Type 0

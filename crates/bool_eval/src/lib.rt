@@ -9,7 +9,7 @@
 ghost use Rattle.std.specs.Prelude.{◌≡◌, Bool, List, length, take, drop, IfOk, IfErr, slice_set};
 ghost use Rattle.zk_model.specs.Circuit.{AreWireBits, Satisfies, output_wire, wire_set};
 ghost use Rattle.circuit_laws.specs.GateBits.{gate_bit};
-ghost use Rattle.bool_eval.specs.GateBits.{IsWithin, AreBlankBehind, LeavesUnset};
+ghost use Rattle.bool_eval.specs.GateBits.{HasWiresBelow, AreBlankBehind, LeavesUnset};
 ghost use Rattle.bool_eval.specs.Answers.{IsCause, AreOnlyOutputs};
 ghost use Rattle.bool_eval.specs.declared.EvalFault.TheVariants as fault;
 
@@ -96,7 +96,7 @@ fn set_gates(circuit: &Circuit, bits: &mut [bool])
 
 /// Sets the bit of the wire that a gate sets, by its truth table.
 fn set_gate(bits: &mut [bool], gate: GateRow)
-    requires { IsWithin (length bits.old) gate }
+    requires { HasWiresBelow (length bits.old) gate }
     ensures { bits.new ≡ slice_set bits.old (wire_set gate) (gate_bit bits.old gate) }
 {
     match gate {

@@ -4,7 +4,7 @@ use Rattle.std.specs.Prelude.{Some}
 use Rattle.std.proofs.lemmas.List.{flat_map_more}
 use Rattle.zk_model.specs.Bristol.{Lexeme, lexemes, gate_lexemes, header_lexemes, Values}
 use Rattle.zk_model.specs.Circuit.{Circuit, IsWellFormed, output_wire, wire_set}
-use Rattle.zk_model.specs.TextFaults.{no_token, without_outputs, IsBegun, begun_lexemes, IsSetSoFar, GateWants, IsWanted, IsTokenFault, IsInputFault, IsOutputFault, said_lexemes, first_lexeme_fault, HeaderWants, IsFirstFault}
+use Rattle.bristol_reader.specs.TextFaults.{no_token, without_outputs, IsBegun, begun_lexemes, IsSetSoFar, GateWants, IsWanted, IsTokenFault, IsInputFault, IsOutputFault, said_lexemes, first_lexeme_fault, HeaderWants, IsFirstFault}
 use Rattle.zk_model.specs.declared.GateRow.{GateRow}
 use Rattle.zk_model.specs.declared.ReadFault.{ReadFault}
 use Rattle.zk_model.specs.declared.ReadFault.TheVariants.{OutputUnset}

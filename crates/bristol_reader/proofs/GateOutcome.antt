@@ -4,7 +4,7 @@ use Rattle.std.proofs.lemmas.List.Elements.{All-from_recursion}
 use Rattle.zk_model.specs.Bits.{from_bit}
 use Rattle.zk_model.specs.Bristol.{Lexeme, number, name, gate_lexemes}
 use Rattle.zk_model.specs.Circuit.{Circuit, IsSet, IsWellFormed, wire_set, wires_read}
-use Rattle.zk_model.specs.TextFaults.{Want, fault_unless, GateWants, first, second, next_wire, last, Said, said_lexemes, IsSaid, MayRead, IsSetSoFar, without_outputs}
+use Rattle.bristol_reader.specs.TextFaults.{Want, fault_unless, GateWants, first, second, next_wire, last, Said, said_lexemes, IsSaid, MayRead, IsSetSoFar, without_outputs}
 use Rattle.zk_model.specs.declared.GateRow.{GateRow}
 use Rattle.zk_model.specs.declared.GateRow.TheVariants.{And, Xor, Inv, Eqw, Eq}
 use Rattle.zk_model.specs.declared.ReadFault.{ReadFault}

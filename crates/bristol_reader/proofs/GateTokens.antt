@@ -4,7 +4,7 @@ use Rattle.std.specs.Prelude.{All, codes, ◌==◌}
 use Rattle.std.proofs.lemmas.List.Elements.{All-head, All-tail}
 use Rattle.zk_model.specs.Bits.{from_bit}
 use Rattle.zk_model.specs.Bristol.{Lexeme, number, name, gate_lexemes}
-use Rattle.zk_model.specs.TextFaults.{a_wire, a_name, input_number, output_number, GateWants, first, second, next_wire, last, is_gate_name}
+use Rattle.bristol_reader.specs.TextFaults.{a_wire, a_name, input_number, output_number, GateWants, first, second, next_wire, last, is_gate_name}
 use Rattle.zk_model.specs.declared.GateRow.{GateRow}
 use Rattle.zk_model.specs.declared.ReadFault.{ReadFault}
 use Rattle.bristol_reader.specs.declared.wants.BinaryGate.{BinaryGate}

@@ -3,7 +3,7 @@ use Rattle.std.proofs.Common.{◌≡◌, ℕ, zero, suc, ◌+◌, ◌-◌, ◌<�
 use Rattle.std.proofs.lemmas.List.Sums.{sum_by-cons}
 use Rattle.zk_model.specs.Bristol.{Lexeme, number, counted_lexemes, header_lexemes, Values}
 use Rattle.zk_model.specs.Circuit.{Circuit}
-use Rattle.zk_model.specs.TextFaults.{a_count, a_size, fault_unless, IsStart, start_lexemes}
+use Rattle.bristol_reader.specs.TextFaults.{a_count, a_size, fault_unless, IsStart, start_lexemes}
 use Rattle.zk_model.specs.declared.ReadFault.{ReadFault}
 use Rattle.zk_model.specs.declared.GateRow.{GateRow}
 use Rattle.bristol_reader.proofs.Outcome.{faulty, number_of, token_fault, sizes_fault, list_fault, list_sizes, behind_list, read_gates, read_lists, read_lexemes}

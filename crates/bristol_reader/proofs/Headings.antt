@@ -3,7 +3,7 @@ use Rattle.std.proofs.Common.{◌≡◌, ℕ, ◌≤◌, ◌^◌, List, [], ◌�
 use Rattle.std.specs.Prelude.{Some}
 use Rattle.std.proofs.lemmas.List.Elements.{All-from_recursion}
 use Rattle.zk_model.specs.Bristol.{Lexeme, number, counted_lexemes, Values}
-use Rattle.zk_model.specs.TextFaults.{Want, a_count, HeaderWants, first_number, second_number, a_list, one_size, IsStart, start_lexemes}
+use Rattle.bristol_reader.specs.TextFaults.{Want, a_count, HeaderWants, first_number, second_number, a_list, one_size, IsStart, start_lexemes}
 use Rattle.zk_model.specs.declared.ReadFault.{ReadFault}
 use Rattle.bristol_reader.specs.declared.header.Header.{Header}
 use Rattle.bristol_reader.specs.Words.{Place, Takes}

@@ -14,3 +14,4 @@ pub mod SetOutcome
 pub mod Splitting
 pub mod Wanted
 pub mod Wires
+pub mod ExampleFaults

@@ -2,7 +2,7 @@
 use Rattle.std.proofs.Common.{◌≡◌, ℕ, ◌-◌, ◌+◌, ◌<◌, ◌≤◌, Some, List, [], ◌∷◌, ◌++◌, map, length, sum, refl, ap, sym, ◌∙◌, subst, arith, length-append, append_assoc}
 use Rattle.std.proofs.lemmas.List.Sums.{sum_by-cons}
 use Rattle.zk_model.specs.Bristol.{Lexeme, number, counted_lexemes}
-use Rattle.zk_model.specs.TextFaults.{Want, a_count, a_size, first_lexeme_fault}
+use Rattle.bristol_reader.specs.TextFaults.{Want, a_count, a_size, first_lexeme_fault}
 use Rattle.zk_model.specs.declared.ReadFault.{ReadFault}
 use Rattle.bristol_reader.specs.Words.{Place, Takes}
 use Rattle.bristol_reader.specs.Wants.{next_fault, IsFaultBehind}

@@ -2,7 +2,7 @@
 use Rattle.std.proofs.Common.{◌≡◌, ◌⊎◌, ℕ, suc, ◌+◌, ◌-◌, ◌≤◌, ◌^◌, Some, None, List, [], ◌∷◌, ◌++◌, map, flat_map, length, sum, refl, ap, sym, ◌∙◌, inl, inr, append_assoc, append-nil, length-append, arith}
 use Rattle.zk_model.specs.Bristol.{Lexeme, number, Values, lexemes, gate_lexemes, header_lexemes, IsText}
 use Rattle.zk_model.specs.Circuit.{Circuit}
-use Rattle.zk_model.specs.TextFaults.{Want, first_number, second_number, a_list, one_size, HeaderWants, IsWanted, start_lexemes, IsBegun, begun_lexemes, IsWireFault, IsOutputUnset, IsFirstFault, IsInputFault, IsOutputFault, first_lexeme_fault, Said, said_lexemes}
+use Rattle.bristol_reader.specs.TextFaults.{Want, first_number, second_number, a_list, one_size, HeaderWants, IsWanted, start_lexemes, IsBegun, begun_lexemes, IsWireFault, IsOutputUnset, IsFirstFault, IsInputFault, IsOutputFault, first_lexeme_fault, Said, said_lexemes}
 use Rattle.zk_model.specs.declared.ReadFault.{ReadFault}
 use Rattle.bristol_reader.proofs.Outcome.{Outcome, faulty, says, token_fault, gate_fault, said_of, wires_fault, with_gates, read_gates, read_lexemes}
 use Rattle.bristol_reader.proofs.HeaderOutcome.{passes, headed, header_passed, header_wrong, count_wrong, size_wrong}

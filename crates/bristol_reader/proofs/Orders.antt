@@ -4,7 +4,7 @@ use Rattle.std.proofs.lemmas.List.Elements.{All-weaker}
 use Rattle.std.proofs.lemmas.Option.{slice_get_within}
 use Rattle.std.specs.Prelude.{All, Some, slice_get}
 use Rattle.zk_model.specs.Circuit.{Circuit, IsSet, IsWellFormed, wire_set, wires_read}
-use Rattle.zk_model.specs.TextFaults.{IsSetSoFar, without_outputs}
+use Rattle.bristol_reader.specs.TextFaults.{IsSetSoFar, without_outputs}
 use Rattle.zk_model.specs.declared.GateRow.{GateRow}
 use Rattle.bristol_reader.specs.Circuits.{circuit_of}
 use Rattle.bristol_reader.specs.Bodies.{AreFirstFlags}

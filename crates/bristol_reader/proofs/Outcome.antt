@@ -2,7 +2,7 @@
 use Rattle.std.proofs.Common.{ℕ, zero, suc, ◌+◌, ◌-◌, ◌^◌, ◌==◌, ◌||◌, nat_le, nat_lt, Bool, false, if◌then◌else◌, Option, Some, None, List, [], ◌∷◌, ◌++◌, map, length, take, drop, sum, codes, bytes_eq}
 use Rattle.zk_model.specs.Bristol.{Lexeme, number, name}
 use Rattle.zk_model.specs.Circuit.{Circuit, wire_set, output_wire}
-use Rattle.zk_model.specs.TextFaults.{Want, a_count, a_size, input_number, output_number, a_wire, a_name, no_token, first_lexeme_fault, Said, read_fault}
+use Rattle.bristol_reader.specs.TextFaults.{Want, a_count, a_size, input_number, output_number, a_wire, a_name, no_token, first_lexeme_fault, Said, read_fault}
 use Rattle.zk_model.specs.declared.GateRow.{GateRow}
 use Rattle.zk_model.specs.declared.GateRow.TheVariants.{And, Xor, Inv, Eqw, Eq}
 use Rattle.zk_model.specs.declared.ReadFault.{ReadFault}

@@ -2,7 +2,7 @@
 use Rattle.std.proofs.Common.{◌≡◌, ℕ, zero, suc, ◌+◌, ◌<◌, ◌≤◌, ◌==◌, nat_lt, true, false, Some, None, List, [], ◌∷◌, ◌++◌, length, take, slice_get, All, refl, ap, sym, ◌∙◌, inl, inr, append-nil, arith, codes, bytes_eq, le-leb, lt-ltb, ltb-true, leb-true, eq-eqb, eqb-true}
 use Rattle.std.proofs.lemmas.Bool.{or_cases, or_left, or_right, cases_Bool, cases_lt, lt-leb}
 use Rattle.zk_model.specs.Circuit.{Circuit, IsSet, wire_set, output_wire}
-use Rattle.zk_model.specs.TextFaults.{IsSetSoFar, MayRead, MayNotSet, beyond, again, read_fault}
+use Rattle.bristol_reader.specs.TextFaults.{IsSetSoFar, MayRead, MayNotSet, beyond, again, read_fault}
 use Rattle.zk_model.specs.declared.GateRow.{GateRow}
 use Rattle.zk_model.specs.declared.ReadFault.{ReadFault}
 use Rattle.zk_model.specs.declared.ReadFault.TheVariants.{OutputUnset}

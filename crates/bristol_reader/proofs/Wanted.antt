@@ -7,7 +7,7 @@ use Rattle.std.proofs.lemmas.List.Elements.{All-from_recursion}
 use Rattle.std.proofs.lemmas.Bool.{lt-leb}
 use Rattle.std.proofs.lemmas.Slice.Eq.{bytes_eq-Decides}
 use Rattle.zk_model.specs.Bristol.{Lexeme, number, name, lexeme, is_blank}
-use Rattle.zk_model.specs.TextFaults.{Want, a_count, a_size, a_wire, a_name, input_number, output_number, no_token, first_lexeme_fault, lexeme_fault, name_fault, number_fault, is_name_of_two, is_name_of_one}
+use Rattle.bristol_reader.specs.TextFaults.{Want, a_count, a_size, a_wire, a_name, input_number, output_number, no_token, first_lexeme_fault, lexeme_fault, name_fault, number_fault, is_name_of_two, is_name_of_one}
 use Rattle.zk_model.specs.declared.ReadFault.{ReadFault}
 use Rattle.zk_model.specs.declared.ReadFault.TheVariants.{BadNumber, BadGate, TooLarge, WireRange, ExtraText}
 use Rattle.bristol_reader.specs.declared.tokens.GateName.{GateName}

@@ -6,7 +6,7 @@ use Rattle.std.proofs.lemmas.Bool.{cases_lt, le-leb}
 use Rattle.std.proofs.lemmas.List.{get_or_past}
 use Rattle.std.proofs.lemmas.List.Elements.{All-from_recursion}
 use Rattle.zk_model.specs.Circuit.{Circuit}
-use Rattle.zk_model.specs.TextFaults.{Said, MayRead, MayNotSet, IsInputFault, beyond, again, read_fault}
+use Rattle.bristol_reader.specs.TextFaults.{Said, MayRead, MayNotSet, IsInputFault, beyond, again, read_fault}
 use Rattle.zk_model.specs.declared.ReadFault.{ReadFault}
 use Rattle.zk_model.specs.declared.ReadFault.TheVariants.{WireRange, ReadBeforeSet, SetTwice, BadConstant}
 use Rattle.bristol_reader.specs.declared.wants.BinaryGate.{BinaryGate}

@@ -2,7 +2,7 @@
 use Rattle.std.specs.Prelude.{◌≡◌, ℕ, ◌+◌, ◌<◌, ◌≤◌, ◌==◌, ◌⊎◌, Bool, true, false, if◌then◌else◌, List, [], ◌∷◌, ◌++◌, length, nat_le, slice_index_or, All, Result, Ok, Err}
 use Rattle.zk_model.specs.Bristol.{Lexeme, number, gate_lexemes}
 use Rattle.zk_model.specs.Circuit.{Circuit, wire_set, wires_read}
-use Rattle.zk_model.specs.TextFaults.{GateWants, IsSetSoFar, Said, IsSaid, said_lexemes, IsInputFault, IsOutputFault}
+use Rattle.bristol_reader.specs.TextFaults.{GateWants, IsSetSoFar, Said, IsSaid, said_lexemes, IsInputFault, IsOutputFault}
 use Rattle.zk_model.specs.declared.GateRow.{GateRow}
 use Rattle.zk_model.specs.declared.GateRow.TheVariants as row
 use Rattle.zk_model.specs.declared.ReadFault.{ReadFault}

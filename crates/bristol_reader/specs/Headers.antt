@@ -1,7 +1,7 @@
 -- What the tokens of a header say.
 use Rattle.std.specs.Prelude.{◌≡◌, ℕ, ◌-◌, ◌<◌, ◌≤◌, List, [], ◌∷◌, map, length, sum}
 use Rattle.zk_model.specs.Bristol.{Lexeme, number, Values, counted_lexemes, header_lexemes}
-use Rattle.zk_model.specs.TextFaults.{Want, a_count, a_size}
+use Rattle.bristol_reader.specs.TextFaults.{Want, a_count, a_size}
 use Rattle.bristol_reader.specs.declared.header.Header.{Header}
 use Rattle.bristol_reader.specs.Words.{Place, Takes}
 use Rattle.zk_model.specs.declared.limits.TheConstants.{MAX_GATES, MAX_VALUES, MAX_WIRES}

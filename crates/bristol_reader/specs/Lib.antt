@@ -1,3 +1,4 @@
+pub mod TextFaults
 pub mod Bodies
 pub mod Circuits
 pub mod Gates

@@ -2,7 +2,7 @@
 use Rattle.std.specs.Prelude.{◌≡◌, ℕ, List}
 use Rattle.zk_model.specs.Circuit.{Circuit}
 use Rattle.zk_model.specs.Bristol.{IsText}
-use Rattle.zk_model.specs.TextFaults.{IsFirstFault}
+use Rattle.bristol_reader.specs.TextFaults.{IsFirstFault}
 use Rattle.zk_model.specs.declared.ReadFault.{ReadFault}
 use Rattle.bristol_reader.specs.declared.fault.ReadError.{ReadError}
 use Rattle.bristol_reader.specs.declared.fault.ReadError.TheVariants.{Fault, NoMemory}

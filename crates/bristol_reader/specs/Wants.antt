@@ -1,7 +1,7 @@
 -- What is wanted of a text's next tokens.
 use Rattle.std.specs.Prelude.{◌≡◌, ℕ, ◌+◌, Bool, if◌then◌else◌, Option, None, Some, List, [], ◌∷◌, ◌++◌, length, codes, min}
 use Rattle.zk_model.specs.Bristol.{Lexeme, number}
-use Rattle.zk_model.specs.TextFaults.{Want, first_lexeme_fault}
+use Rattle.bristol_reader.specs.TextFaults.{Want, first_lexeme_fault}
 use Rattle.zk_model.specs.declared.ReadFault.{ReadFault}
 use Rattle.bristol_reader.specs.declared.tokens.GateName.TheVariants.{And, Xor, Inv, Eq, Eqw}
 use Rattle.bristol_reader.specs.declared.tokens.Word.{Word}

@@ -1,6 +1,6 @@
 // The header of a circuit's text.
 ghost use Rattle.std.specs.Prelude.{◌≤◌, ◌^◌, IfOk, IfErr};
-ghost use Rattle.zk_model.specs.TextFaults.{HeaderWants};
+ghost use Rattle.bristol_reader.specs.TextFaults.{HeaderWants};
 ghost use Rattle.bristol_reader.specs.Wants.{IsFaultBehind};
 ghost use Rattle.bristol_reader.specs.Headers.{ListWants, TakesHeader, TakesList};
 ghost use Rattle.zk_model.specs.declared.limits.TheConstants.{MAX_WIRES};

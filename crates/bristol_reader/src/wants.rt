@@ -1,8 +1,8 @@
 // The next token, where a number or a name of a kind is wanted.
 ghost use Rattle.std.specs.Prelude.{◌≡◌, ◌≤◌, ◌^◌, IfOk, IfErr, Some, [], ◌∷◌};
 ghost use Rattle.zk_model.specs.Bristol.{number, name};
-ghost use Rattle.zk_model.specs.TextFaults.{a_count, a_size, input_number, output_number};
-ghost use Rattle.zk_model.specs.TextFaults.{a_wire, a_name, no_token};
+ghost use Rattle.bristol_reader.specs.TextFaults.{a_count, a_size, input_number, output_number};
+ghost use Rattle.bristol_reader.specs.TextFaults.{a_wire, a_name, no_token};
 ghost use Rattle.bristol_reader.specs.Words.{Takes};
 ghost use Rattle.bristol_reader.specs.Wants.{inputs_of, pair_of, pair_text, single_of, single_text};
 ghost use Rattle.bristol_reader.specs.Wants.{next_fault, TakesNumber};

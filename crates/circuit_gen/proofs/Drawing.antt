@@ -5,7 +5,7 @@ use Rattle.std.specs.List.{range_with_len}
 use Rattle.std.proofs.lemmas.List.FromFn.{map-range_with_len_more}
 use Rattle.std.proofs.Math.Numerals.{add-one}
 use Rattle.zk_model.specs.Circuit.{wire_set}
-use Rattle.zk_model.specs.Generated.{next_state, state_after, draw, generated_bit, drawn_wire, drawn_gate, generated_gate}
+use Rattle.circuit_gen.specs.Generated.{next_state, state_after, draw, generated_bit, drawn_wire, drawn_gate, generated_gate}
 use Rattle.zk_model.specs.declared.GateRow.{GateRow}
 use Rattle.zk_model.specs.declared.GateRow.TheVariants.{And, Xor, Inv, Eqw}
 use Rattle.circuit_gen.specs.Lines.{ReadsEarlier}

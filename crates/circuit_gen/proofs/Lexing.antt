@@ -7,7 +7,7 @@ use Rattle.std.proofs.lemmas.List.Elements.{All-from_recursion}
 use Rattle.zk_model.specs.Bits.{from_bit}
 use Rattle.zk_model.specs.Bristol.{Lexeme, number, name, is_blank, tokens, lexeme, lexemes, gate_lexemes, circuit_lexemes}
 use Rattle.zk_model.specs.Circuit.{Circuit, wire_set}
-use Rattle.zk_model.specs.Generated.{line, gate_line, heading, plain_text}
+use Rattle.circuit_gen.specs.Generated.{line, gate_line, heading, plain_text}
 use Rattle.zk_model.specs.declared.GateRow.{GateRow}
 use Rattle.zk_model.specs.declared.GateRow.TheVariants.{And, Xor, Inv, Eqw, Eq}
 use Rattle.bristol_reader.proofs.Splitting.{tokens_blank, tokens_first}

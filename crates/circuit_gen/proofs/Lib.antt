@@ -4,3 +4,4 @@ pub mod Rows
 pub mod Drawing
 pub mod WireBits
 pub mod Texts
+pub mod ExampleGenerated

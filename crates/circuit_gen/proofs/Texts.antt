@@ -5,7 +5,7 @@ use Rattle.std.proofs.lemmas.List.{flat_map_more}
 use Rattle.std.proofs.lemmas.List.Elements.{recursion_from_All}
 use Rattle.std.proofs.lemmas.List.FromFn.{length-map-range_with_len, get_or-map-range_with_len, map-range_with_len_more}
 use Rattle.zk_model.specs.Bristol.{IsText}
-use Rattle.zk_model.specs.Generated.{generated_bits, generated_bit, generated_gate, generated_circuit, generated_text, gate_line}
+use Rattle.circuit_gen.specs.Generated.{generated_bits, generated_bit, generated_gate, generated_circuit, generated_text, gate_line}
 use Rattle.zk_model.specs.declared.GateRow.{GateRow}
 use Rattle.circuit_gen.proofs.Lexing.{IsWritten, plain_lexemes}
 use Rattle.circuit_gen.proofs.Rows.{rows_well_formed}

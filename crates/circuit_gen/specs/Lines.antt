@@ -10,8 +10,8 @@ abbrev pub ReadsEarlier : GateRow → Type 0
 ReadsEarlier gate = AllByRecursion (λ wire. wire < wire_set gate) (wires_read gate)
 
 -- the line of a gate with two inputs, whose name has the space before it and the line feed
-abbrev pub pair_line : List ℕ → ℕ → ℕ → ℕ → List ℕ
-pair_line name a b out =
+abbrev pub two_input_line : List ℕ → ℕ → ℕ → ℕ → List ℕ
+two_input_line name a b out =
     codes "2 1 " ++ (decimal a ++ (codes " " ++ (decimal b ++ (codes " " ++ (decimal out ++ name)))))
 
 -- the same of a gate with one input

@@ -1,6 +1,6 @@
 // The numbers that a circuit is drawn from.
 ghost use Rattle.std.specs.Prelude.{◌≡◌, ◌<◌, ◌≤◌, IfOk, OnOk};
-ghost use Rattle.zk_model.specs.Generated.{next_state, state_after, generated_bits, drawn_gate, drawn_wire};
+ghost use Rattle.circuit_gen.specs.Generated.{next_state, state_after, generated_bits, drawn_gate, drawn_wire};
 ghost use Rattle.zk_model.specs.Circuit.{wire_set};
 ghost use Rattle.circuit_gen.specs.Lines.{ReadsEarlier};
 

@@ -14,7 +14,7 @@ mod values;
 ghost use Rattle.std.specs.Prelude.{◌≡◌, ℕ, ◌≤◌, length, min, IfOk};
 ghost use Rattle.zk_model.specs.Bristol.{IsText};
 ghost use Rattle.zk_model.specs.Circuit.{Satisfies};
-ghost use Rattle.zk_model.specs.Generated.{generated_bits, generated_circuit, generated_text, heading};
+ghost use Rattle.circuit_gen.specs.Generated.{generated_bits, generated_circuit, generated_text, heading};
 
 use crate::draws::Draws;
 use crate::line::push_line;

@@ -1,9 +1,9 @@
 // The text of a gate.
 ghost use Rattle.std.specs.Prelude.{◌≡◌, ◌+◌, ◌<◌, ◌≤◌, ◌^◌, [], ◌++◌, length, codes, OnOk};
 ghost use Rattle.std.specs.Fmt.{decimal};
-ghost use Rattle.zk_model.specs.Generated.{gate_line};
+ghost use Rattle.circuit_gen.specs.Generated.{gate_line};
 ghost use Rattle.zk_model.specs.Circuit.{wire_set};
-ghost use Rattle.circuit_gen.specs.Lines.{ReadsEarlier, pair_line, single_line};
+ghost use Rattle.circuit_gen.specs.Lines.{ReadsEarlier, two_input_line, single_line};
 
 use itoa::write_digits;
 use std::alloc::AllocError;
@@ -70,7 +70,7 @@ impl Line {
         requires empty { self.old ≡ [] }
         requires name { length name.now ≤ 5 }
         requires wires { (a < 10 ^ 7) × (b < 10 ^ 7) × (out < 10 ^ 7) }
-        ensures { self.new ≡ pair_line name.now a b out }
+        ensures { self.new ≡ two_input_line name.now a b out }
     {
         self.put(name);
         self.put_number(out);

@@ -4,17 +4,17 @@ use Rattle.std.proofs.lemmas.Bool.{not-true}
 use Rattle.std.proofs.lemmas.List.Sums.{sum_by_push}
 use Rattle.zk_port.specs.Disks.{DiskState, LeavesOnly}
 use Rattle.zk_port.specs.Images.{Only, StepsBy}
-use Rattle.zk_model.specs.ClaimedRanges.{AreMerged, RiseFrom, claims_of}
-use Rattle.zk_model.specs.Twins as twins
-use Rattle.zk_model.specs.Twins.{MayHaveGeneration, SaysTwin, claimed_units}
+use Rattle.claim_store.specs.ClaimedRanges.{AreMerged, RiseFrom, claims_of}
+use Rattle.lease_journal.specs.Twins as twins
+use Rattle.lease_journal.specs.Twins.{MayHaveGeneration, SaysTwin, claimed_units}
 use Rattle.zk_model.specs.declared.JournalKind.TheVariants.{Claims}
 use Rattle.zk_model.specs.declared.Span.{Span}
 use Rattle.lease_core.specs.Spans.{meets_any, span}
 use Rattle.lease_journal.proofs.Moments.{leaves_also, started}
 use Rattle.twin_journal.specs.States.{TwinState}
 use Rattle.twin_journal.specs.States as twin
-use Rattle.claim_store.specs.Claims.{AreClaims, AreDurable, AreKnown, ClaimState, HaveRanges, IsKept, SaysClaims, SaysOldOrNew, bodies_of, first_met, state_of}
-use Rattle.claim_store.specs.Causes.{AreFew, AreMore, IsFree}
+use Rattle.claim_store.specs.Claims.{AreClaims, AreDurable, AreKnown, ClaimState, HaveRanges, IsStoreKept, SaysClaims, SaysOldOrNewClaims, bodies_of, first_met, state_of}
+use Rattle.claim_store.specs.Causes.{AreFewClaims, AreMore, IsFree}
 use Rattle.claim_store.specs.Ranges.{with_span}
 use Rattle.claim_store.specs.Writes.{next_bodies, next_generation, next_used}
 use Rattle.claim_store.proofs.Joining.{few_units, merged_more, merged_self, units_of, with_length, with_units_count}
@@ -47,7 +47,7 @@ says_of disk_state journal total claims bytes known =
     ranges_said total journal.begin journal.slots journal.generation claims known.bodies bytes known.have (record { second = journal.second; area = known.kept.area })
 
 -- what a store keeps says that its claims are durable
-pub durable_of : {D : Type 0} (disk_state : D → DiskState) (journal : TwinState D) (total : ℕ) (claims : List Span) → IsKept disk_state journal total claims
+pub durable_of : {D : Type 0} (disk_state : D → DiskState) (journal : TwinState D) (total : ℕ) (claims : List Span) → IsStoreKept disk_state journal total claims
     → journal.fault ≡ 0 → total < 2 ^ 64 - 1 → AreDurable disk_state (state_of journal total claims)
 durable_of {D} disk_state journal total claims kept whole small = told (disk_state journal.disk).content refl where
   told : (o : Option (List ℕ)) → (disk_state journal.disk).content ≡ o → IfSome o (λ bytes.
@@ -95,7 +95,7 @@ module _ (total : ℕ) (claims : List Span) (s : Span) (sound : AreClaims total 
   pub more_of : (slots : ℕ) → slots < length (with_span s claims) → AreMore slots claims s
   more_of slots more = record { ranges = with_span s claims; merged = with_merged; more = more }
 
-  pub few_of : (slots : ℕ) → length (with_span s claims) ≤ slots → AreFew slots claims s
+  pub few_of : (slots : ℕ) → length (with_span s claims) ≤ slots → AreFewClaims slots claims s
   few_of slots few = record { ranges = with_span s claims; merged = with_merged; few = few }
 
   -- how many units there are then
@@ -153,7 +153,7 @@ module _ (total : ℕ) (claims : List Span) (s : Span) (sound : AreClaims total 
     -- what the journal says while the span is written
     pub old_or_new : (begin slots used : ℕ) (image : List ℕ)
         → twins.SaysOldOrNew begin slots generation bodies (next_generation used slots generation) (next_bodies used slots bodies s (with_span s claims)) image
-        → SaysOldOrNew total begin slots claims s image
+        → SaysOldOrNewClaims total begin slots claims s image
     old_or_new begin slots used image one = ⊎_elim
         (λ says. inl (ranges_said total begin slots generation claims bodies image have says))
         (λ says. inr (record {
@@ -166,18 +166,18 @@ module _ (total : ℕ) (claims : List Span) (s : Span) (sound : AreClaims total 
 
 -- ---- the store
 
-module _ {D : Type 0} (disk_state : D → DiskState) (journal : TwinState D) (total : ℕ) (claims : List Span) (kept : IsKept disk_state journal total claims) where
+module _ {D : Type 0} (disk_state : D → DiskState) (journal : TwinState D) (total : ℕ) (claims : List Span) (kept : IsStoreKept disk_state journal total claims) where
   -- with no call of the disk the claims are read
   pub reads_still : (s : Span) → journal.fault ≡ 0 → total < 2 ^ 64 - 1 → (bytes : List ℕ) → (disk_state journal.disk).content ≡ Some bytes
-      → IfSome (disk_state journal.disk).content (SaysOldOrNew total journal.begin journal.slots claims s)
+      → IfSome (disk_state journal.disk).content (SaysOldOrNewClaims total journal.begin journal.slots claims s)
   reads_still s whole small bytes is =
-      subst (λ o. IfSome o (SaysOldOrNew total journal.begin journal.slots claims s)) (sym is)
+      subst (λ o. IfSome o (SaysOldOrNewClaims total journal.begin journal.slots claims s)) (sym is)
       (inl (says_of disk_state journal total claims bytes (kept.says whole small bytes is)))
 
   -- with no call of the disk nothing else is left
   pub still : (s : Span) → ((c : List ℕ) → (disk_state journal.disk).images_since (disk_state journal.disk).moment c → (disk_state journal.disk).images c)
       → journal.fault ≡ 0 → total < 2 ^ 64 - 1 → (bytes : List ℕ) → (disk_state journal.disk).content ≡ Some bytes
-      → LeavesOnly (disk_state journal.disk) (disk_state journal.disk) (SaysOldOrNew total journal.begin journal.slots claims s)
+      → LeavesOnly (disk_state journal.disk) (disk_state journal.disk) (SaysOldOrNewClaims total journal.begin journal.slots claims s)
   still s only_now whole small bytes is = started (disk_state journal.disk) (λ image left.
       let durable = subst (λ o. IfSome o (λ file. SaysClaims total journal.begin journal.slots claims file
       × ((c : List ℕ) → (disk_state journal.disk).images c → SaysClaims total journal.begin journal.slots claims c))) is
@@ -213,15 +213,15 @@ module _ {D : Type 0} (disk_state : D → DiskState) (journal : TwinState D) (to
       fits : journal.generation + 1 < 2 ^ 64
       fits = generation_fits total claims s kept.sound kept.rising may journal.generation known.bodies known.have small
 
-      claims_then : (image : List ℕ) → Says (with_span s claims) known.bodies image → SaysOldOrNew total journal.begin journal.slots claims s image
+      claims_then : (image : List ℕ) → Says (with_span s claims) known.bodies image → SaysOldOrNewClaims total journal.begin journal.slots claims s image
       claims_then image one =
           old_or_new total claims s kept.sound kept.rising may journal.generation known.bodies known.have journal.begin journal.slots journal.used image one
 
-      leaves_here : AnyMoment (with_span s claims) → LeavesOnly (disk_state journal.disk) (disk_state new.disk) (SaysOldOrNew total journal.begin journal.slots claims s)
-      leaves_here write = leaves_also {Q = SaysOldOrNew total journal.begin journal.slots claims s} (write bytes known.bodies known.kept fits) claims_then
+      leaves_here : AnyMoment (with_span s claims) → LeavesOnly (disk_state journal.disk) (disk_state new.disk) (SaysOldOrNewClaims total journal.begin journal.slots claims s)
+      leaves_here write = leaves_also {Q = SaysOldOrNewClaims total journal.begin journal.slots claims s} (write bytes known.bodies known.kept fits) claims_then
 
-      reads_here : Read (with_span s claims) → IfSome (disk_state new.disk).content (SaysOldOrNew total journal.begin journal.slots claims s)
-      reads_here write = if_also {Q = SaysOldOrNew total journal.begin journal.slots claims s} (disk_state new.disk).content (write bytes known.bodies known.kept fits) claims_then
+      reads_here : Read (with_span s claims) → IfSome (disk_state new.disk).content (SaysOldOrNewClaims total journal.begin journal.slots claims s)
+      reads_here write = if_also {Q = SaysOldOrNewClaims total journal.begin journal.slots claims s} (disk_state new.disk).content (write bytes known.bodies known.kept fits) claims_then
 
       now_known : (now : List ℕ) → (disk_state new.disk).content ≡ Some now → Recovered (with_span s claims) → Turned
           → AreKnown disk_state new total (with_span s claims) now
@@ -234,17 +234,17 @@ module _ {D : Type 0} (disk_state : D → DiskState) (journal : TwinState D) (to
       }
 
     pub leaves : (ranges : List Span) → ranges ≡ with_span s claims → AnyMoment ranges → total < 2 ^ 64 - 1 → (bytes : List ℕ) → (disk_state journal.disk).content ≡ Some bytes
-        → LeavesOnly (disk_state journal.disk) (disk_state new.disk) (SaysOldOrNew total journal.begin journal.slots claims s)
+        → LeavesOnly (disk_state journal.disk) (disk_state new.disk) (SaysOldOrNewClaims total journal.begin journal.slots claims s)
     leaves ranges are write small bytes is = leaves_here small bytes is (subst AnyMoment are write)
 
     pub reads : (ranges : List Span) → ranges ≡ with_span s claims → Read ranges → total < 2 ^ 64 - 1 → (bytes : List ℕ) → (disk_state journal.disk).content ≡ Some bytes
-        → IfSome (disk_state new.disk).content (SaysOldOrNew total journal.begin journal.slots claims s)
+        → IfSome (disk_state new.disk).content (SaysOldOrNewClaims total journal.begin journal.slots claims s)
     reads ranges are read small bytes is = reads_here small bytes is (subst Read are read)
 
     module _ (step : List ℕ → List ℕ → Type 0) (steps : StepsBy step (disk_state journal.disk).content (disk_state new.disk).content) where
       claimed_here : Recovered (with_span s claims) → Turned → new.used ≡ next_used journal.used journal.slots (with_span s claims)
           → new.fault ≡ 0 → Only (disk_state new.disk).content (disk_state new.disk).images
-          → IsKept disk_state new total (with_span s claims)
+          → IsStoreKept disk_state new total (with_span s claims)
       claimed_here recovered generation used none only = record {
         few = enough (nat_lt journal.used journal.slots) refl;
         sound = with_sound total claims s kept.sound kept.rising may;
@@ -262,14 +262,14 @@ module _ {D : Type 0} (disk_state : D → DiskState) (journal : TwinState D) (to
 
       pub claimed : (ranges : List Span) → ranges ≡ with_span s claims → Recovered ranges → Turned → new.used ≡ next_used journal.used journal.slots ranges
           → new.fault ≡ 0 → Only (disk_state new.disk).content (disk_state new.disk).images
-          → IsKept disk_state new total ranges
+          → IsStoreKept disk_state new total ranges
       claimed ranges are recovered generation used none only =
-          subst (IsKept disk_state new total) (sym are)
+          subst (IsStoreKept disk_state new total) (sym are)
           (claimed_here (subst Recovered are recovered) generation (subst (λ r. new.used ≡ next_used journal.used journal.slots r) are used) none only)
 
       pub refused : (ranges : List Span) → ranges ≡ with_span s claims → 0 < new.fault → new.used ≡ journal.used → AnyMoment ranges → Read ranges
           → ((t : ℕ) (c : List ℕ) → t ≤ (disk_state new.disk).moment → (disk_state new.disk).images c → (disk_state new.disk).images_since t c)
-          → IsKept disk_state new total claims
+          → IsStoreKept disk_state new total claims
       refused ranges are marked used_are write read counts = record {
         few = omega (arith, kept.few, used_are);
         sound = kept.sound;
@@ -279,7 +279,7 @@ module _ {D : Type 0} (disk_state : D → DiskState) (journal : TwinState D) (to
         unsure = λ broken small now there.
             let was = known_before step (disk_state journal.disk).content (disk_state new.disk).content now steps there in
             let left = leaves ranges are write small was.0 was.1 in
-            let told = subst (λ o. IfSome o (SaysOldOrNew total journal.begin journal.slots claims s)) there (reads ranges are read small was.0 was.1) in
+            let told = subst (λ o. IfSome o (SaysOldOrNewClaims total journal.begin journal.slots claims s)) there (reads ranges are read small was.0 was.1) in
             record {
               under_way = s;
               sound = more_sound total claims s kept.sound kept.rising may;
@@ -288,6 +288,6 @@ module _ {D : Type 0} (disk_state : D → DiskState) (journal : TwinState D) (to
             };
       }
         where
-          moved : (image : List ℕ) → SaysOldOrNew total journal.begin journal.slots claims s image → SaysOldOrNew total new.begin new.slots claims s image
-          moved image one = subst (λ n. SaysOldOrNew total n new.slots claims s image) (sym begins)
-              (subst (λ n. SaysOldOrNew total journal.begin n claims s image) (sym slots_are) one)
+          moved : (image : List ℕ) → SaysOldOrNewClaims total journal.begin journal.slots claims s image → SaysOldOrNewClaims total new.begin new.slots claims s image
+          moved image one = subst (λ n. SaysOldOrNewClaims total n new.slots claims s image) (sym begins)
+              (subst (λ n. SaysOldOrNewClaims total journal.begin n claims s image) (sym slots_are) one)

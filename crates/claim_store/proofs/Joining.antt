@@ -5,7 +5,7 @@ use Rattle.std.proofs.lemmas.Bool.Decides.{nat_tests}
 use Rattle.std.proofs.lemmas.List.Folds.{list_any-append}
 use Rattle.std.proofs.lemmas.List.Sums.{sum_by-cons}
 use Rattle.zk_model.specs.declared.Span.{Span}
-use Rattle.zk_model.specs.ClaimedRanges.{AreMerged, RiseFrom, has_unit, is_claimed}
+use Rattle.claim_store.specs.ClaimedRanges.{AreMerged, RiseFrom, has_unit, is_claimed}
 use Rattle.lease_core.specs.Spans.{IsApart, meets, meets_any, span}
 use Rattle.claim_store.specs.Ranges.{among_ranges, before_ranges, with_span}
 

@@ -5,10 +5,10 @@ use Rattle.std.proofs.lemmas.Bool.{eq-eqb, ne_eqb}
 use Rattle.std.proofs.lemmas.Bool.Decides.{nat_tests}
 use Rattle.std.proofs.lemmas.List.{drop_more, get_or-drop, get_or-take, length-drop, length-take-le, set_split, take-append-drop}
 use Rattle.zk_model.specs.declared.Span.{Span}
-use Rattle.zk_model.specs.ClaimedRanges.{RiseFrom}
+use Rattle.claim_store.specs.ClaimedRanges.{RiseFrom}
 use Rattle.lease_core.specs.Spans.{meets, span}
 use Rattle.claim_store.specs.Claims.{first_met}
-use Rattle.claim_store.specs.Ranges.{IsPlace, among_ranges, before_ranges, with_span}
+use Rattle.claim_store.specs.Ranges.{IsPlaceAmong, among_ranges, before_ranges, with_span}
 use Rattle.claim_store.proofs.Joining.{with_among, with_behind}
 use Rattle.claim_store.proofs.Units.{at_or_above, rising_have_units}
 
@@ -81,7 +81,7 @@ met_no_more s ranges at before past = met_skip s ranges at before ∙ ap (first_
 
 -- it stands at the place up to which ranges end at or before its start
 pub is_place : (s : Span) (ranges : List Span) (at : ℕ) → at ≤ length ranges → ((k : ℕ) (d : Span) → k < at → (get_or ranges k d).end ≤ s.start)
-    → ((k : ℕ) (d : Span) → at ≤ k → k < length ranges → s.start < (get_or ranges k d).end) → IsPlace s ranges at
+    → ((k : ℕ) (d : Span) → at ≤ k → k < length ranges → s.start < (get_or ranges k d).end) → IsPlaceAmong s ranges at
 is_place s ranges at within before behind = record { within = within; before = before; behind = behind }
 
 -- the front of the ranges up to a place at which one ends at or behind the start
@@ -107,7 +107,7 @@ get_any (x ∷ l) zero a b inside = refl
 get_any (x ∷ l) (suc k) a b inside = get_any l k a b (omega (arith, inside))
 
 -- where the last before the place doesn't end at the start, all end before it
-pub apart_before : (s : Span) (ranges : List Span) (at : ℕ) (d : Span) → RiseFrom 0 ranges → IsPlace s ranges at
+pub apart_before : (s : Span) (ranges : List Span) (at : ℕ) (d : Span) → RiseFrom 0 ranges → IsPlaceAmong s ranges at
     → ((get_or ranges (at - 1) d).end ≡ s.start → ⊥) → (k : ℕ) (e : Span) → k < at → (get_or ranges k e).end < s.start
 apart_before s ranges at d rise place apart k e below =
     let inside : at - 1 < length ranges = omega (arith, below, place.within) in
@@ -121,7 +121,7 @@ apart_before s ranges at d rise place apart k e below =
     strict le ne = omega (arith, le, ne)
 
 -- one that ends where the span starts
-pub touches_before : (s : Span) (ranges : List Span) (at last : ℕ) (d : Span) → RiseFrom 0 ranges → s.start < s.end → IsPlace s ranges at → last + 1 ≡ at → (get_or ranges last d).end ≡ s.start
+pub touches_before : (s : Span) (ranges : List Span) (at last : ℕ) (d : Span) → RiseFrom 0 ranges → s.start < s.end → IsPlaceAmong s ranges at → last + 1 ≡ at → (get_or ranges last d).end ≡ s.start
     → with_span s ranges ≡ take last ranges ++ before_ranges (span (get_or ranges last d).start s.end) (drop at ranges)
 touches_before s ranges at last d rise some place is touch =
     let inside : last < length ranges = omega (arith, place.within, is) in
@@ -144,7 +144,7 @@ touches_before s ranges at last d rise some place is touch =
         omega (arith, before, units, ap (λ (r : Span). r.end) (same_at e inside), touch)
 
 -- none does
-pub none_before : (s : Span) (ranges : List Span) (at : ℕ) → s.start < s.end → IsPlace s ranges at
+pub none_before : (s : Span) (ranges : List Span) (at : ℕ) → s.start < s.end → IsPlaceAmong s ranges at
     → ((k : ℕ) (d : Span) → k < at → (get_or ranges k d).end < s.start) → with_span s ranges ≡ take at ranges ++ before_ranges s (drop at ranges)
 none_before s ranges at some place apart =
     split_at s ranges at place.within apart (λ d inside. omega (arith, place.behind at d (omega arith) inside))

@@ -1,7 +1,7 @@
 -- Ranges of some bodies, computed.
 use Rattle.std.proofs.Common.{◌≡◌, [], ◌∷◌, refl, arith}
 use Rattle.std.proofs.lemmas.Bool.Decides.{nat_tests}
-use Rattle.zk_model.specs.ClaimedRanges.{AreMerged, claims_of}
+use Rattle.claim_store.specs.ClaimedRanges.{AreMerged, claims_of}
 use Rattle.lease_core.specs.Spans.{span}
 use Rattle.claim_store.specs.Ranges.{with_span}
 

@@ -2,9 +2,9 @@
 use Rattle.std.proofs.Common.{◌≡◌, ◌+◌, ◌-◌, ℕ, List, [], ◌∷◌, ◌++◌, Bool, true, false, not, ◌&&◌, nat_lt, nat_le, refl, ap, sym, ◌∙◌, subst, arith}
 use Rattle.std.proofs.lemmas.Bool.{and_parts, leb-true, ltb-true, not-true}
 use Rattle.std.proofs.lemmas.List.Sums.{sum_by_push}
-use Rattle.zk_model.specs.ClaimedRanges.{AreMerged, RiseFrom}
-use Rattle.zk_model.specs.Journals.{body_at, first_bodies}
-use Rattle.zk_model.specs.Twins.{claimed_units}
+use Rattle.claim_store.specs.ClaimedRanges.{AreMerged, RiseFrom}
+use Rattle.lease_journal.specs.Journals.{body_at, first_bodies}
+use Rattle.lease_journal.specs.Twins.{claimed_units}
 use Rattle.zk_model.specs.declared.JournalKind.TheVariants.{Claims}
 use Rattle.zk_model.specs.declared.Span.{Span}
 use Rattle.lease_core.specs.Spans.{meets_any}

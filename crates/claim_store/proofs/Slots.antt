@@ -3,9 +3,9 @@ use Rattle.std.proofs.Common.{◌≡◌, ℕ, ◌+◌, ◌-◌, List, [], ◌∷
 use Rattle.std.proofs.lemmas.List.{get_or-map, length-map, map-append}
 use Rattle.std.proofs.lemmas.List.FromFn.{map-range_with_len_more}
 use Rattle.std.proofs.lemmas.List.Sums.{sum_by-cons}
-use Rattle.zk_model.specs.ClaimedRanges.{claim_of, claims_of, is_claimed}
-use Rattle.zk_model.specs.Journals.{body_at, first_bodies}
-use Rattle.zk_model.specs.Twins.{claimed_units}
+use Rattle.claim_store.specs.ClaimedRanges.{claim_of, claims_of, is_claimed}
+use Rattle.lease_journal.specs.Journals.{body_at, first_bodies}
+use Rattle.lease_journal.specs.Twins.{claimed_units}
 use Rattle.zk_model.specs.declared.JournalKind.TheVariants.{Claims}
 use Rattle.zk_model.specs.declared.Span.{Span}
 use Rattle.lease_journal.proofs.Putting.{first-at, length-first}

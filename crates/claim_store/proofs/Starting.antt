@@ -5,11 +5,11 @@ use Rattle.std.proofs.lemmas.Bool.Decides.{nat_tests}
 use Rattle.std.proofs.lemmas.List.{get_or-map, length-map}
 use Rattle.zk_port.specs.Disks.{DiskState}
 use Rattle.zk_port.specs.Images.{Only}
-use Rattle.zk_model.specs.ClaimedRanges.{AreMerged, RiseFrom, claim_of, claims_of}
+use Rattle.claim_store.specs.ClaimedRanges.{AreMerged, RiseFrom, claim_of, claims_of}
 use Rattle.zk_model.specs.declared.Span.{Span}
 use Rattle.zk_model.specs.declared.JournalKind.TheVariants.{Claims}
-use Rattle.zk_model.specs.Journals.{AreSound, body_at, body_before, first_bodies, keeps_rule, last_body}
-use Rattle.zk_model.specs.Twins.{HoldsTwin, MayHaveGeneration, SaysTwin, area_at, claimed_units, twin_slots_at}
+use Rattle.lease_journal.specs.Journals.{AreSound, body_at, body_before, first_bodies, keeps_rule, last_body}
+use Rattle.lease_journal.specs.Twins.{HoldsTwin, MayHaveGeneration, SaysTwin, area_at, claimed_units, twin_slots_at}
 use Rattle.lease_core.specs.Spans.{IsApart, meets, meets_any, span}
 use Rattle.lease_journal.specs.declared.fault.StartFault.{StartFault}
 use Rattle.lease_journal.specs.declared.fault.StartFault.TheVariants as start
@@ -20,8 +20,8 @@ use Rattle.twin_journal.specs.States as twin
 use Rattle.twin_journal.proofs.TwinLaws.{recovers_one, says_recovers, starts_again}
 use Rattle.claim_store.specs.declared.fault.StoreFault.{StoreFault}
 use Rattle.claim_store.specs.declared.fault.StoreFault.TheVariants as store
-use Rattle.claim_store.specs.Claims.{AreClaims, IsKept, SaysClaims, bodies_of, claim_at, first_claims}
-use Rattle.claim_store.specs.Causes.{ClaimsStartAgain, IsFirstMeeting, ReadCause, StoreCause}
+use Rattle.claim_store.specs.Claims.{AreClaims, IsStoreKept, SaysClaims, bodies_of, claim_at, first_claims}
+use Rattle.claim_store.specs.Causes.{ClaimsStartAgain, IsFirstMeeting, ClaimReadCause, StoreCause}
 use Rattle.claim_store.proofs.Slots.{claims_count, claims_get}
 
 -- no image but the content, over calls that change neither
@@ -60,7 +60,7 @@ module _ {D : Type 0} (disk_state : D → DiskState) (old : TwinState D) (disk :
       → ((bytes : List ℕ) → (disk_state disk).content ≡ Some bytes
       → AreRead total (area_at old.begin old.slots old.second) old.used old.generation claims bytes)
       → Only (disk_state disk).content (disk_state disk).images
-      → IsKept disk_state (record old { disk = disk; fault = 0 }) total claims
+      → IsStoreKept disk_state (record old { disk = disk; fault = 0 }) total claims
   begins_here few sound rising kept read only = record {
     few = few;
     sound = sound;
@@ -83,10 +83,10 @@ pub begins : {D : Type 0} (disk_state : D → DiskState) (old new : TwinState D)
     → ((bytes : List ℕ) → (disk_state new.disk).content ≡ Some bytes
     → AreRead total (area_at old.begin old.slots old.second) old.used old.generation claims bytes)
     → Only (disk_state new.disk).content (disk_state new.disk).images
-    → IsKept disk_state new total claims
+    → IsStoreKept disk_state new total claims
 begins {D} disk_state old new total claims state none few sound rising kept read only =
     let is : new ≡ record old { disk = new.disk; fault = 0 } = state ∙ ap (λ n. record old { disk = new.disk; fault = n }) none in
-    subst (λ (j : TwinState D). IsKept disk_state j total claims) (sym is)
+    subst (λ (j : TwinState D). IsStoreKept disk_state j total claims) (sym is)
     (begins_here disk_state old new.disk total claims few sound rising kept read only)
 
 -- the bytes of a start say the claims that were read
@@ -138,7 +138,7 @@ module _ (id : List ℕ) (total begin slots used : ℕ) (last : ℕ × ℕ) (sec
     meets = meet;
   }
 
-  pub read_cause : (e : StoreFault) → ReadCause total (area_at begin slots second) used bytes e → StoreCause id total bytes e
+  pub read_cause : (e : StoreFault) → ClaimReadCause total (area_at begin slots second) used bytes e → StoreCause id total bytes e
   read_cause store.NoMemory cause = tt
   read_cause (store.Journal start.Device) cause = tt
   read_cause (store.Journal (start.Short need got)) cause = absurd cause

@@ -4,7 +4,7 @@ use Rattle.std.proofs.lemmas.Bool.{or_cases, or_left, or_right, true≢false, ca
 use Rattle.std.proofs.lemmas.List.Folds.{list_any_at}
 use Rattle.std.proofs.lemmas.Bool.Decides.{nat_tests}
 use Rattle.zk_model.specs.declared.Span.{Span}
-use Rattle.zk_model.specs.ClaimedRanges.{AreMerged, RiseFrom, has_unit, is_claimed}
+use Rattle.claim_store.specs.ClaimedRanges.{AreMerged, RiseFrom, has_unit, is_claimed}
 use Rattle.lease_core.specs.Spans.{AreApart, meets, meets_any, span}
 use Rattle.claim_store.specs.Claims.{AreClaims}
 

@@ -1,9 +1,9 @@
 -- Why a store of claims doesn't start, and why a span is not claimed.
 use Rattle.std.specs.Prelude.{◌≡◌, ◌≢◌, ◌⊎◌, ℕ, ◌+◌, ◌<◌, ◌≤◌, List, [], ◌∷◌, ◌++◌, length, Some, None, true, false, Bool, Result, IsErrOf, OnOk}
 use Rattle.zk_port.specs.Counts.{Rose}
-use Rattle.zk_model.specs.ClaimedRanges.{AreMerged}
-use Rattle.zk_model.specs.Journals.{AreUsed, IsFirstBad, first_bodies}
-use Rattle.zk_model.specs.Twins.{HoldsTwin, IsActive, MayHaveGeneration, area_at, generation_at}
+use Rattle.claim_store.specs.ClaimedRanges.{AreMerged}
+use Rattle.lease_journal.specs.Journals.{AreUsed, IsFirstBad, first_bodies}
+use Rattle.lease_journal.specs.Twins.{HoldsTwin, IsActive, MayHaveGeneration, area_at, generation_at}
 use Rattle.zk_model.specs.declared.Span.{Span}
 use Rattle.zk_model.specs.declared.JournalKind.TheVariants.{Claims}
 use Rattle.lease_core.specs.Spans.{meets_any, span}
@@ -48,12 +48,12 @@ ClaimsStartAgain =
     → StoreCause id total bytes fault → (fault ≡ store.Journal start.Device) ⊎ (fault ≡ store.NoMemory)
 
 -- why the slots in use of an area are not read as claims: the first whose span may not stand after those before it
-abbrev pub ReadCause : ℕ → ℕ → ℕ → List ℕ → StoreFault → Type 0
-ReadCause total at used bytes store.NoMemory = Unit {0}
-ReadCause total at used bytes (store.Journal start.Device) = Unit {0}
-ReadCause total at used bytes (store.Journal (start.Short need got)) = ⊥
-ReadCause total at used bytes (store.Journal (start.BadHeader place)) = ⊥
-ReadCause total at used bytes (store.Journal (start.BadBody slot)) =
+abbrev pub ClaimReadCause : ℕ → ℕ → ℕ → List ℕ → StoreFault → Type 0
+ClaimReadCause total at used bytes store.NoMemory = Unit {0}
+ClaimReadCause total at used bytes (store.Journal start.Device) = Unit {0}
+ClaimReadCause total at used bytes (store.Journal (start.Short need got)) = ⊥
+ClaimReadCause total at used bytes (store.Journal (start.BadHeader place)) = ⊥
+ClaimReadCause total at used bytes (store.Journal (start.BadBody slot)) =
     (slot < used) × AreClaims total (first_claims at slot bytes)
     × (may_follow total (first_claims at slot bytes) (claim_at at bytes slot) ≡ false)
 
@@ -69,7 +69,7 @@ pub record AreMore (slots : ℕ) (claims : List Span) (s : Span) : Type 0 where
   pub merged : AreMerged (claims ++ s ∷ []) ranges
   pub more : slots < length ranges
 
-pub record AreFew (slots : ℕ) (claims : List Span) (s : Span) : Type 0 where
+pub record AreFewClaims (slots : ℕ) (claims : List Span) (s : Span) : Type 0 where
   pub ranges : List Span
   pub merged : AreMerged (claims ++ s ∷ []) ranges
   pub few : length ranges ≤ slots
@@ -79,29 +79,29 @@ pub record IsFree {D : Type 0} (state : ClaimState D) (start count : ℕ) : Type
   pub whole : state.fault ≡ 0
   pub within : start + count ≤ state.total
   pub apart : first_met (span start (start + count)) state.claims ≡ None
-  pub room : (state.used < state.slots) ⊎ AreFew state.slots state.claims (span start (start + count))
+  pub room : (state.used < state.slots) ⊎ AreFewClaims state.slots state.claims (span start (start + count))
 
 -- What speaks against these units, before the disk or memory is asked: the first of these that holds.
-abbrev pub IsFaultOf : {D : Type 0} → ClaimState D → ℕ → ℕ → ClaimFault → Type 0
-IsFaultOf state start count (Broken first) = (first ≡ state.fault) × (state.fault ≢ 0)
-IsFaultOf state start count (OutOfRange total) = (total ≡ state.total) × (state.fault ≡ 0) × (state.total < start + count)
-IsFaultOf state start count (Overlap earlier) =
+abbrev pub IsClaimFaultOf : {D : Type 0} → ClaimState D → ℕ → ℕ → ClaimFault → Type 0
+IsClaimFaultOf state start count (Broken first) = (first ≡ state.fault) × (state.fault ≢ 0)
+IsClaimFaultOf state start count (OutOfRange total) = (total ≡ state.total) × (state.fault ≡ 0) × (state.total < start + count)
+IsClaimFaultOf state start count (Overlap earlier) =
     (state.fault ≡ 0) × (start + count ≤ state.total)
     × (first_met (span start (start + count)) state.claims ≡ Some earlier)
-IsFaultOf state start count (Full slots) =
+IsClaimFaultOf state start count (Full slots) =
     (slots ≡ state.slots) × (state.fault ≡ 0) × (start + count ≤ state.total)
     × (first_met (span start (start + count)) state.claims ≡ None) × (state.used ≡ state.slots)
     × AreMore state.slots state.claims (span start (start + count))
-IsFaultOf state start count Device = ⊥
-IsFaultOf state start count NoMemory = ⊥
+IsClaimFaultOf state start count Device = ⊥
+IsClaimFaultOf state start count NoMemory = ⊥
 
 -- Why these units are not claimed; `new` is the store after the call, and the counts are the disk's before and after it. All but
 -- Device leave the store as it was.
 abbrev pub ClaimCause : {D : Type 0} → ClaimState D → ℕ → ℕ → ClaimState D → ℕ → ℕ → ClaimFault → Type 0
-ClaimCause old start count new before now (Broken first) = IsFaultOf old start count (Broken first) × (new ≡ old)
-ClaimCause old start count new before now (OutOfRange total) = IsFaultOf old start count (OutOfRange total) × (new ≡ old)
-ClaimCause old start count new before now (Overlap earlier) = IsFaultOf old start count (Overlap earlier) × (new ≡ old)
-ClaimCause old start count new before now (Full slots) = IsFaultOf old start count (Full slots) × (new ≡ old)
+ClaimCause old start count new before now (Broken first) = IsClaimFaultOf old start count (Broken first) × (new ≡ old)
+ClaimCause old start count new before now (OutOfRange total) = IsClaimFaultOf old start count (OutOfRange total) × (new ≡ old)
+ClaimCause old start count new before now (Overlap earlier) = IsClaimFaultOf old start count (Overlap earlier) × (new ≡ old)
+ClaimCause old start count new before now (Full slots) = IsClaimFaultOf old start count (Full slots) × (new ≡ old)
 ClaimCause old start count new before now NoMemory = IsFree old start count × (new ≡ old)
 ClaimCause old start count new before now Device =
     IsFree old start count × Rose before now × (new.fault ≡ now) × (0 < new.fault)

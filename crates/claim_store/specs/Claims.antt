@@ -4,9 +4,9 @@ use Rattle.std.specs.List.{find}
 use Rattle.std.specs.Coded.{Coded, code_by, coded×, coded_ℕ, coded_list}
 use Rattle.zk_port.specs.Disks.{DiskState}
 use Rattle.zk_port.specs.Images.{Only}
-use Rattle.zk_model.specs.ClaimedRanges.{AreMerged, RiseFrom, claim_of, claims_of}
-use Rattle.zk_model.specs.Journals.{AreUsed, body_at, first_bodies}
-use Rattle.zk_model.specs.Twins.{IsActive, MayHaveGeneration, SaysTwin, area_at, claimed_units}
+use Rattle.claim_store.specs.ClaimedRanges.{AreMerged, RiseFrom, claim_of, claims_of}
+use Rattle.lease_journal.specs.Journals.{AreUsed, body_at, first_bodies}
+use Rattle.lease_journal.specs.Twins.{IsActive, MayHaveGeneration, SaysTwin, area_at, claimed_units}
 use Rattle.zk_model.specs.declared.JournalKind.TheVariants.{Claims}
 use Rattle.zk_model.specs.declared.Span.{Span}
 use Rattle.lease_core.specs.Spans.{meets, meets_any, AreApart}
@@ -40,8 +40,8 @@ state_of journal total claims = record {
 abbrev pub span_code : Coded Span
 span_code = code_by (ℕ × ℕ) (coded× coded_ℕ coded_ℕ) (λ s. (s.start, s.end)) (λ p. record { start = p.0; end = p.1 }) (λ _. refl)
 
-abbrev pub state_code : {D : Type 0} → Coded D → Coded (ClaimState D)
-state_code {D} disk =
+abbrev pub claim_state_code : {D : Type 0} → Coded D → Coded (ClaimState D)
+claim_state_code {D} disk =
     code_by (D × (ℕ × (ℕ × (ℕ × (ℕ × (ℕ × List Span))))))
     (coded× disk (coded× coded_ℕ (coded× coded_ℕ (coded× coded_ℕ (coded× coded_ℕ (coded× coded_ℕ (coded_list span_code)))))))
     (λ s. (s.disk, (s.begin, (s.total, (s.slots, (s.used, (s.fault, s.claims)))))))
@@ -107,8 +107,8 @@ pub record SaysMore (total begin slots : ℕ) (claims : List Span) (s : Span) (b
   pub says : SaysClaims total begin slots ranges bytes
 
 -- it says these, or those of these and of one span more
-abbrev pub SaysOldOrNew : ℕ → ℕ → ℕ → List Span → Span → List ℕ → Type 0
-SaysOldOrNew total begin slots claims s bytes = SaysClaims total begin slots claims bytes ⊎ SaysMore total begin slots claims s bytes
+abbrev pub SaysOldOrNewClaims : ℕ → ℕ → ℕ → List Span → Span → List ℕ → Type 0
+SaysOldOrNewClaims total begin slots claims s bytes = SaysClaims total begin slots claims bytes ⊎ SaysMore total begin slots claims s bytes
 
 -- ---- disks
 
@@ -123,9 +123,9 @@ AreDurable disk_state state = IfSome (disk_state state.disk).content (λ bytes.
 pub record AreUnsure {D : Type 0} (disk_state : D → DiskState) (state : ClaimState D) (bytes : List ℕ) : Type 0 where
   pub under_way : Span
   pub sound : AreClaims state.total (state.claims ++ under_way ∷ [])
-  pub read : SaysOldOrNew state.total state.begin state.slots state.claims under_way bytes
+  pub read : SaysOldOrNewClaims state.total state.begin state.slots state.claims under_way bytes
   pub each : (image : List ℕ) → (disk_state state.disk).images image
-      → SaysOldOrNew state.total state.begin state.slots state.claims under_way image
+      → SaysOldOrNewClaims state.total state.begin state.slots state.claims under_way image
 
 -- the bodies of a journal have these ranges, and as many units; their generation is one that there may be for them
 pub record HaveRanges (total : ℕ) (claims : List Span) (generation : ℕ) (bodies : List (ℕ × ℕ)) : Type 0 where
@@ -141,7 +141,7 @@ pub record AreKnown {D : Type 0} (disk_state : D → DiskState) (journal : TwinS
   pub have : HaveRanges total claims journal.generation bodies
 
 -- What a store keeps. Of the bytes it knows nothing where there may be as many generations as their number has room for.
-pub record IsKept {D : Type 0} (disk_state : D → DiskState) (journal : TwinState D) (total : ℕ) (claims : List Span) : Type 0 where
+pub record IsStoreKept {D : Type 0} (disk_state : D → DiskState) (journal : TwinState D) (total : ℕ) (claims : List Span) : Type 0 where
   pub few : length claims ≤ journal.used
   pub sound : AreClaims total claims
   pub rising : RiseFrom 0 claims

@@ -1,3 +1,4 @@
+pub mod ClaimedRanges
 pub mod Ranges
 pub mod Claims
 pub mod Writes

@@ -20,7 +20,7 @@ with_span s [] = s ∷ []
 with_span s (r ∷ ranges) = if nat_lt r.end s.start then r ∷ with_span s ranges else among_ranges s (r ∷ ranges)
 
 -- the place of a span among ranges of which it meets none: those before it end at or before its start, and those behind it don't
-pub record IsPlace (s : Span) (ranges : List Span) (at : ℕ) : Type 0 where
+pub record IsPlaceAmong (s : Span) (ranges : List Span) (at : ℕ) : Type 0 where
   pub within : at ≤ length ranges
   pub before : (k : ℕ) (d : Span) → k < at → (slice_index_or ranges k d).end ≤ s.start
   pub behind : (k : ℕ) (d : Span) → at ≤ k → k < length ranges → s.start < (slice_index_or ranges k d).end

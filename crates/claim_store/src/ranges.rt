@@ -1,9 +1,9 @@
 // Ranges of units that rise, no two of which touch.
 ghost use Rattle.std.specs.Prelude.{◌≡◌, ◌<◌, ◌≤◌, ◌+◌, ◌++◌, ◌∷◌, ℕ, length, take, drop, slice_index_or, OnOk};
-ghost use Rattle.zk_model.specs.ClaimedRanges.{RiseFrom};
+ghost use Rattle.claim_store.specs.ClaimedRanges.{RiseFrom};
 ghost use Rattle.zk_model.specs.declared.Span.{Span};
 ghost use Rattle.claim_store.specs.Claims.{first_met, may_follow};
-ghost use Rattle.claim_store.specs.Ranges.{IsPlace, before_ranges, with_span};
+ghost use Rattle.claim_store.specs.Ranges.{IsPlaceAmong, before_ranges, with_span};
 
 use std::alloc::AllocFailed;
 use zk_model::Span;
@@ -52,7 +52,7 @@ struct Joined {
 fn join_before(ranges: &[Span], place: usize, span: Span) -> Joined
     requires rising { RiseFrom 0 ranges.now }
     requires some { span.start < span.end }
-    requires place { IsPlace span ranges.now place }
+    requires place { IsPlaceAmong span ranges.now place }
     ensures first { (result.first ≤ place) × (place ≤ result.first + 1) }
     ensures end { result.end ≡ place }
     ensures joined { with_span span ranges.now

@@ -1,12 +1,12 @@
 // How claims are read from a journal.
 ghost use Rattle.std.specs.Prelude.{◌≡◌, ◌<◌, ◌≤◌, ℕ, List, length, Some, IfOk, IfErr, OnOk};
 ghost use Rattle.zk_port.specs.Disks.{Stays};
-ghost use Rattle.zk_model.specs.ClaimedRanges.{AreMerged, RiseFrom};
-ghost use Rattle.zk_model.specs.Journals.{first_bodies};
-ghost use Rattle.zk_model.specs.Twins.{area_at, claimed_units};
+ghost use Rattle.claim_store.specs.ClaimedRanges.{AreMerged, RiseFrom};
+ghost use Rattle.lease_journal.specs.Journals.{first_bodies};
+ghost use Rattle.lease_journal.specs.Twins.{area_at, claimed_units};
 ghost use Rattle.zk_model.specs.declared.JournalKind.TheVariants.{Claims};
 ghost use Rattle.claim_store.specs.Claims.{AreClaims, bodies_of, claim_at, first_claims};
-ghost use Rattle.claim_store.specs.Causes.{HasReadCause, ReadCause};
+ghost use Rattle.claim_store.specs.Causes.{HasReadCause, ClaimReadCause};
 ghost use Rattle.claim_store.specs.declared.fault.StoreFault.TheVariants as store;
 ghost use Rattle.lease_journal.specs.declared.fault.StartFault.TheVariants as start;
 
@@ -66,7 +66,7 @@ pub fn read_claims<B: Disk>(
     ensures state { journal.new ≡ record journal.old { disk = journal.new.disk; fault = journal.new.fault } }
     ensures fault { OnOk result (journal.new.fault ≡ 0) }
     ensures cause { IfErr result (λ e. (bytes : List ℕ)
-        → (B.state journal.old.disk).content ≡ Some bytes → ReadCause total
+        → (B.state journal.old.disk).content ≡ Some bytes → ClaimReadCause total
         (area_at journal.old.begin journal.old.slots journal.old.second) journal.old.used bytes e) }
     ensures faults { HasReadCause (B.state journal.old.disk).faults (B.state journal.new.disk).faults result }
 {

@@ -3,14 +3,14 @@ ghost use Rattle.std.specs.Prelude.{◌≡◌, ◌≢◌, ◌<◌, ◌≤◌, �
 ghost use Rattle.zk_port.specs.Counts.{Rose};
 ghost use Rattle.zk_port.specs.Disks.{LeavesOnly, Stays};
 ghost use Rattle.zk_port.specs.Images.{Only};
-ghost use Rattle.zk_model.specs.ClaimedRanges.{AreMerged, RiseFrom};
-ghost use Rattle.zk_model.specs.Twins.{HoldsTwin, twin_length};
+ghost use Rattle.claim_store.specs.ClaimedRanges.{AreMerged, RiseFrom};
+ghost use Rattle.lease_journal.specs.Twins.{HoldsTwin, twin_length};
 ghost use Rattle.zk_model.specs.declared.JournalKind.TheVariants.{Claims};
 ghost use Rattle.lease_core.specs.Spans.{span};
 ghost use Rattle.lease_journal.specs.Keeps.{ChangesAt, Keeps};
 ghost use Rattle.twin_journal.specs.Starts.{IsTidyFile, SaysTwinSlots};
-ghost use Rattle.claim_store.specs.Claims.{AreClaims, AreDurable, AreInUse, AreUnsure, SaysClaims, SaysOldOrNew};
-ghost use Rattle.claim_store.specs.Causes.{ClaimCause, IsFree, IsFaultOf, StoreCause};
+ghost use Rattle.claim_store.specs.Claims.{AreClaims, AreDurable, AreInUse, AreUnsure, SaysClaims, SaysOldOrNewClaims};
+ghost use Rattle.claim_store.specs.Causes.{ClaimCause, IsFree, IsClaimFaultOf, StoreCause};
 ghost use Rattle.claim_store.specs.Ranges.{with_span};
 ghost use Rattle.claim_store.specs.Writes.{next_used};
 ghost use Rattle.claim_store.specs.declared.fault.StoreFault.TheVariants as store;
@@ -42,11 +42,11 @@ impl<B: Disk> Model for ClaimStore<B> {
 
     ghost Value = { model.ClaimState B };
 
-    ghost coded = { model.state_code B.code };
+    ghost coded = { model.claim_state_code B.code };
 
     ghost view = { λ s. model.state_of s.journal s.total s.claims.items };
 
-    ghost invariant = { λ s. model.IsKept B.state s.journal s.total s.claims.items };
+    ghost invariant = { λ s. model.IsStoreKept B.state s.journal s.total s.claims.items };
 }
 
 /// These ranges with a span that meets none of them.
@@ -131,7 +131,7 @@ impl<B: Disk> ClaimStore<B> {
         ensures free { IfOk result (λ s. (s ≡ span start (start + count)) × IsFree self.now start count) }
         ensures fits { IfOk result (λ s. self.now.slots ≤ self.now.used
             → length (with_span s self.now.claims) ≤ self.now.slots) }
-        ensures refused { IfErr result (IsFaultOf self.now start count) }
+        ensures refused { IfErr result (IsClaimFaultOf self.now start count) }
     {
         let first = self.journal.fault();
         if first != 0 {
@@ -178,11 +178,11 @@ impl<B: Disk> ClaimStore<B> {
         ensures only { OnOk result (Only (B.state self.new.disk).content (B.state self.new.disk).images) }
         ensures read { self.old.fault ≡ 0 → self.old.total < 2 ^ 64 - 1 → (bytes : List ℕ)
             → (B.state self.old.disk).content ≡ Some bytes
-            → IfSome (B.state self.new.disk).content (SaysOldOrNew self.old.total self.old.begin
+            → IfSome (B.state self.new.disk).content (SaysOldOrNewClaims self.old.total self.old.begin
             self.old.slots self.old.claims (span start (start + count))) }
         ensures any_moment { self.old.fault ≡ 0 → self.old.total < 2 ^ 64 - 1 → (bytes : List ℕ)
             → (B.state self.old.disk).content ≡ Some bytes
-            → LeavesOnly (B.state self.old.disk) (B.state self.new.disk) (SaysOldOrNew self.old.total
+            → LeavesOnly (B.state self.old.disk) (B.state self.new.disk) (SaysOldOrNewClaims self.old.total
             self.old.begin self.old.slots self.old.claims (span start (start + count))) }
         ensures changes { ChangesAt (self.old.begin + 64) (64 * (self.old.slots + 1))
             (B.state self.old.disk) (B.state self.new.disk) }

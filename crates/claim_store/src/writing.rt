@@ -3,7 +3,7 @@ ghost use Rattle.std.specs.Prelude.{◌≡◌, ◌<◌, ◌≤◌, ◌+◌, ◌*
 ghost use Rattle.zk_port.specs.Counts.{Rose};
 ghost use Rattle.zk_port.specs.Disks.{LeavesOnly};
 ghost use Rattle.zk_port.specs.Images.{Only};
-ghost use Rattle.zk_model.specs.Twins.{HoldsTwin, SaysOldOrNew};
+ghost use Rattle.lease_journal.specs.Twins.{HoldsTwin, SaysOldOrNew};
 ghost use Rattle.zk_model.specs.declared.JournalKind.{JournalKind};
 ghost use Rattle.lease_journal.specs.Keeps.{ChangesAt, Keeps};
 ghost use Rattle.twin_journal.specs.States.{IsKept};

@@ -7,7 +7,8 @@ use Rattle.clap.specs.Faults.{fault_of, is_simple_and_free}
 use Rattle.clap.specs.Matches.{found_of}
 use Rattle.clap.specs.declared.parser.matches.ArgMatches.{ArgMatches}
 use Rattle.clap.proofs.WalkLemmas.{first_value-rows, both}
-use Rattle.command_words.specs.Found.{Form, IsFound, are_plain, given_by, is_plain, told}
+use Rattle.command_words.specs.Found.{IsFound, are_plain, given_by, is_plain, told, word_ids}
+use Rattle.command_words.specs.Rows.{Row}
 
 plain_same : (f g : List ℕ → Option (List ℕ)) (ids : List (List ℕ)) → ((id : List ℕ) → f id ≡ g id) → are_plain f ids ≡ are_plain g ids
 plain_same f g [] same = refl
@@ -27,31 +28,31 @@ pub given_rows : (app : App) (words : List (List ℕ)) (m : ArgMatches) → HasM
     → given_by m id ≡ first_of id (matches_of app words)
 given_rows app words m has simple id = first_value-rows (found_of m) id ∙ ap (first_of id) (has simple).0
 
-pub not_plain : (form : Form) (words : List (List ℕ)) (m : ArgMatches) → HasMatchesOf (told form) words m → are_plain (given_by m) (form.places ++ form.valued) ≡ false
-    → IsFound form words None
-not_plain form words m has bad = record {
+pub not_plain : (row : Row) (words : List (List ℕ)) (m : ArgMatches) → HasMatchesOf (told row) words m → are_plain (given_by m) (word_ids row) ≡ false
+    → IsFound row words None
+not_plain row words m has bad = record {
   matches = tt;
   plain = tt;
   faultless = tt;
   none = λ _ takes_them plain.
       let simple = (both _ _ takes_them).0 in
-      true≢false (sym plain ∙ sym (plain_same _ _ (form.places ++ form.valued) (given_rows (told form) words m has simple)) ∙ bad);
+      true≢false (sym plain ∙ sym (plain_same _ _ (word_ids row) (given_rows (told row) words m has simple)) ∙ bad);
 }
 
-pub not_taken : (own : App) (form : Form) (words : List (List ℕ)) → own ≡ told form → (takes own words ≡ true → ⊥) → IsFound form words None
-not_taken own form words same refuses = record {
+pub not_taken : (own : App) (row : Row) (words : List (List ℕ)) → own ≡ told row → (takes own words ≡ true → ⊥) → IsFound row words None
+not_taken own row words same refuses = record {
   matches = tt;
   plain = tt;
   faultless = tt;
   none = λ _ takes_them _. refuses (ap (λ a. takes a words) same ∙ takes_them);
 }
 
-pub kept : (own : App) (form : Form) (words : List (List ℕ)) (m : ArgMatches) (found : Option ArgMatches) → own ≡ told form → HasMatchesOf own words m
-    → (is_simple_and_free own ≡ true → fault_of own words ≡ []) → IfSome found (λ x. (x ≡ m) × (are_plain (given_by x) (form.places ++ form.valued) ≡ true))
-    → (IsNone found → are_plain (given_by m) (form.places ++ form.valued) ≡ false) → IsFound form words found
-kept own form words m None same has clean some none = not_plain form words m (subst (λ a. HasMatchesOf a words m) same has) (none refl)
-kept own form words m (Some x) same has clean some none = record {
-  matches = subst (HasMatchesOf (told form) words) (sym some.0) (subst (λ a. HasMatchesOf a words m) same has);
+pub kept : (own : App) (row : Row) (words : List (List ℕ)) (m : ArgMatches) (found : Option ArgMatches) → own ≡ told row → HasMatchesOf own words m
+    → (is_simple_and_free own ≡ true → fault_of own words ≡ []) → IfSome found (λ x. (x ≡ m) × (are_plain (given_by x) (word_ids row) ≡ true))
+    → (IsNone found → are_plain (given_by m) (word_ids row) ≡ false) → IsFound row words found
+kept own row words m None same has clean some none = not_plain row words m (subst (λ a. HasMatchesOf a words m) same has) (none refl)
+kept own row words m (Some x) same has clean some none = record {
+  matches = subst (HasMatchesOf (told row) words) (sym some.0) (subst (λ a. HasMatchesOf a words m) same has);
   plain = some.1;
   faultless = subst (λ a. is_simple_and_free a ≡ true → fault_of a words ≡ []) same clean;
   none = λ isnt _ _. true≢false isnt;

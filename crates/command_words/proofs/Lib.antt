@@ -8,11 +8,7 @@ pub mod Walks
 pub mod Ends
 pub mod Taking
 pub mod Writing
+pub mod Known
 pub mod ReadBy
-pub mod TheForms
-pub mod Inversions
-pub mod TheReadings
 pub mod Named
-pub mod RehearseReading
-pub mod Unasked
 pub mod SaidBits

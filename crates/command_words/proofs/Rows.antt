@@ -49,7 +49,7 @@ pub first_later : (id : Text) (r : Row) (rows : List Row) → bytes_eq r.id id �
 first_later id r rows other = ap (λ b. first_in (cond b (Some r) (find (λ x. bytes_eq x.id id) rows))) other
 
 -- what is in the places depends on what is given there alone
-abbrev pub GiveSame : (Text → Option Text) → (Text → Option Text) → List Text → Type 0
+abbrev pub GiveSame : {A : Type 0} → (Text → A) → (Text → A) → List Text → Type 0
 GiveSame f g [] = Unit {0}
 GiveSame f g (id ∷ ids) = (f id ≡ g id) × GiveSame f g ids
 

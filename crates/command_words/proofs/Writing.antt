@@ -5,7 +5,7 @@ use Rattle.std.specs.List.{list_all, list_any}
 use Rattle.std.specs.Str.{bytes_eq}
 use Rattle.clap.proofs.WalkLemmas.{both}
 use Rattle.clap.proofs.SimpleLemmas.{is_false}
-use Rattle.command_words.specs.Arguments.{Positional, Valued, Flag, arranged, begins_with_dash, is_flag, kind_of, option_named, Word}
+use Rattle.command_words.specs.Arguments.{Positional, Valued, Flag, arranged, begins_with_dash, is_flag, is_valued, kind_of, option_named, Word}
 use Rattle.command_words.specs.Orders.{StandsAmong, nothing as no_words, place as in_place, valued as with_value, flag as by_itself}
 use Rattle.command_words.specs.Words.{stand_once_among}
 use Rattle.command_words.specs.Found.{are_plain, flag_value, is_plain, places_in, value_at, with_place}
@@ -44,6 +44,7 @@ not_dash true e = e
 not_dash false e = refl
 
 plain_kind : (word : List ℕ) → begins_with_dash word ≡ false → kind_of word ≡ Positional
+unfolding is_valued is_flag
 plain_kind [] e = refl
 plain_kind (c ∷ word) e =
     let d : (c == 45) ≡ false = not_dash (c == 45) e in

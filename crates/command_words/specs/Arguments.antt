@@ -1,24 +1,22 @@
 -- The words after a command's name: those that stand in their places, and the options among them.
-use Rattle.std.specs.Prelude.{ℕ, List, [], ◌∷◌, ◌++◌, Bool, true, false, if◌then◌else◌, Option, Some, None, codes, is_some, not, ◌&&◌, ◌||◌}
+use Rattle.std.specs.Prelude.{ℕ, List, [], ◌∷◌, ◌++◌, Bool, true, false, if◌then◌else◌, Option, Some, None, codes, is_some, not, ◌&&◌}
 use Rattle.std.specs.Option.{option_map}
+use Rattle.std.specs.List.{list_any}
 use Rattle.std.specs.Str.{bytes_eq}
+use Rattle.command_words.specs.Rows.{row_of}
+use Rattle.command_words.specs.declared.table.TheConstants.{NAMES}
 
 -- the first byte is a dash
 abbrev pub begins_with_dash : List ℕ → Bool
 begins_with_dash [] = false
 begins_with_dash (c ∷ word) = bytes_eq (c ∷ []) (codes "-")
 
--- the options that a value follows
-abbrev pub is_valued : List ℕ → Bool
-is_valued word =
-    bytes_eq word (codes "--section") || bytes_eq word (codes "--units") || bytes_eq word (codes "--trees")
-    || bytes_eq word (codes "--height") || bytes_eq word (codes "--base") || bytes_eq word (codes "--sessions")
-    || bytes_eq word (codes "--workers") || bytes_eq word (codes "--logs") || bytes_eq word (codes "--public")
-    || bytes_eq word (codes "--gates") || bytes_eq word (codes "--number") || bytes_eq word (codes "--timeout")
+-- the options of the table that a value follows, and those that stand by themselves
+unfoldable pub is_valued : List ℕ → Bool
+is_valued word = list_any (λ name. list_any (λ option. bytes_eq word (45 ∷ 45 ∷ option.0)) (row_of name).options) NAMES.now
 
--- the options that stand by themselves
-abbrev pub is_flag : List ℕ → Bool
-is_flag word = bytes_eq word (codes "--extended") || bytes_eq word (codes "--follow")
+unfoldable pub is_flag : List ℕ → Bool
+is_flag word = list_any (λ name. list_any (λ flag. bytes_eq word (45 ∷ 45 ∷ flag)) (row_of name).flags) NAMES.now
 
 -- what a word after the name is, by itself: it stands in its place, is an option that a value follows, an option that stands by itself, or
 -- any other word that begins with a dash

@@ -3,10 +3,9 @@ pub mod BitWords
 pub mod Commands
 pub mod Forms
 pub mod Found
-pub mod Given
 pub mod Help
-pub mod HelpTexts
-pub mod Names
 pub mod Numbers
 pub mod Orders
+pub mod Reading
+pub mod Rows
 pub mod Words

@@ -1,9 +1,11 @@
 // The help of the program, and of each command.
 ghost use Rattle.std.specs.Prelude.{◌≡◌, ◌∷◌, [], is_some, IsNone, IsSome};
 ghost use Rattle.std.specs.Option.{option_map};
-ghost use Rattle.command_words.specs.Help.{asks_for_help, is_help_word, is_command_name};
-ghost use Rattle.command_words.specs.HelpTexts.{help_of, help_of_command, help_of_word};
+ghost use Rattle.command_words.specs.Help.{asks_for_help, help_of, help_of_command, help_of_word, is_help_word};
+ghost use Rattle.command_words.specs.Rows.{named};
 ghost use Rattle.command_words.specs.Words.{asked, texts};
+
+use crate::table::Name;
 
 const PROGRAM: &str = "\
 zk: prove that secret input bits give the outputs of a Boolean circuit, and verify it
@@ -50,7 +52,7 @@ statuses:
   9  more units are needed than a session may have
 ";
 
-const DEAL: &str = "\
+pub const DEAL: &str = "\
 usage: zk deal NAME --units N [--trees T --height H --base K]
 
 Deals NAME.prover and NAME.verifier, with the journals NAME.prover.journal and NAME.verifier.journal. Files of these
@@ -68,7 +70,7 @@ example: zk deal /tmp/demo --units 16
 statuses: 0 done, 4 a file or the output failed, 7 memory was missing
 ";
 
-const EVAL: &str = "\
+pub const EVAL: &str = "\
 usage: zk eval CIRCUIT BITS
 
 Prints the outputs of the circuit in the file CIRCUIT at the input bits: BITS, or with `@NAME` those in the file
@@ -79,7 +81,7 @@ example: zk eval examples/and.txt 11
 statuses: 0 done, 3 the circuit or the number of bits is refused, 4 a file or the output failed, 7 memory was missing
 ";
 
-const REHEARSE: &str = "\
+pub const REHEARSE: &str = "\
 usage: zk rehearse CIRCUIT BITS [--section G] [--extended] [--public BITS]
        zk rehearse --gates N --number S [--section G] [--extended]
 
@@ -99,7 +101,7 @@ statuses: 0 accepted, 3 the circuit or a number of bits is refused, 4 a file or 
   9 more units are needed than a session may have
 ";
 
-const SERVE: &str = "\
+pub const SERVE: &str = "\
 usage: zk serve ADDRESS FILE CIRCUIT OUTPUTS --sessions N [--workers W] [--section G] [--timeout S] [--logs PREFIX]
            [--follow] [--public BITS]
 
@@ -122,7 +124,7 @@ statuses: 0 all accepted, 1 some session was not, 3 a file or a number of bits i
   session may have
 ";
 
-const SERVE_MANY: &str = "\
+pub const SERVE_MANY: &str = "\
 usage: zk serve-many ADDRESS FILE STATEMENTS --sessions N [--workers W] [--section G] [--timeout S] [--logs PREFIX]
            [--follow]
 
@@ -134,7 +136,7 @@ example: zk serve-many 127.0.0.1:4000 /tmp/demo.verifier statements.txt --sessio
 options and statuses: those of `zk serve`, but for --public
 ";
 
-const PROVE: &str = "\
+pub const PROVE: &str = "\
 usage: zk prove ADDRESS FILE CIRCUIT BITS OUTPUTS [--timeout S] [--public BITS]
 
 Proves to the verifier at ADDRESS that there are input bits for which the circuit gives OUTPUTS. FILE is the dealt
@@ -151,7 +153,7 @@ statuses: 0 accepted, 1 rejected, or the bits do not give the outputs, 3 a file 
   protocol
 ";
 
-const AUDIT: &str = "\
+pub const AUDIT: &str = "\
 usage: zk audit CIRCUIT OUTPUTS PROVERFILE VERIFIERFILE LOG [--public BITS]
 
 Finds, from both dealt files and a session's log, the input bits that an accepted session fixes, or why it fixes none.
@@ -165,7 +167,7 @@ statuses: 0 the inputs are found, 1 they are not, 3 a file, the log or a number 
   failed, 7 memory was missing
 ";
 
-const MIGRATE: &str = "\
+pub const MIGRATE: &str = "\
 usage: zk migrate SIDE FILE
 
 Migrates FILE.journal, the journal of the dealt file FILE, in place: from the form of one area, as earlier versions made
@@ -178,7 +180,7 @@ statuses: 0 migrated, now or before, 3 the file or the journal is refused, 4 a f
   failed, 7 memory was missing
 ";
 
-const STATUS: &str = "\
+pub const STATUS: &str = "\
 usage: zk status FILE [CIRCUIT]
 
 Says how many units of the dealt file FILE are left, by its journal FILE.journal, in lines: `id HEX`, the same for
@@ -208,6 +210,7 @@ pub fn help_text(words: &[String]) -> Option<&'static str>
 }
 
 /// The help that a lone word asks for.
+#[tactic(auto, unfolding(crate::specs::Rows::named))]
 fn program_help(word: &str) -> Option<&'static str>
     ensures text { option_map (λ text. text.now) result ≡ help_of_word word.now }
     ensures some { is_some result ≡ is_help_word word.now }
@@ -223,18 +226,7 @@ fn program_help(word: &str) -> Option<&'static str>
 /// The help of a command.
 fn command_help(name: &str) -> Option<&'static str>
     ensures text { option_map (λ text. text.now) result ≡ help_of_command name.now }
-    ensures some { is_some result ≡ is_command_name name.now }
+    ensures some { is_some result ≡ is_some (named name.now) }
 {
-    match name {
-        "deal" => Some(DEAL),
-        "eval" => Some(EVAL),
-        "rehearse" => Some(REHEARSE),
-        "serve" => Some(SERVE),
-        "serve-many" => Some(SERVE_MANY),
-        "prove" => Some(PROVE),
-        "audit" => Some(AUDIT),
-        "migrate" => Some(MIGRATE),
-        "status" => Some(STATUS),
-        _ => None,
-    }
+    Some(Name::named(name)?.row().help)
 }

@@ -10,9 +10,9 @@ use Rattle.std.proofs.lemmas.List.FromFn.{get_or-map-range_with_len, length-map-
 use Rattle.zk_model.specs.Field.{IsElement, from_word}
 use Rattle.zk_model.specs.Bytes.{LeftRight, AreBothBytes, AreBytes}
 use Rattle.zk_model.specs.Mac.{fitting_key}
-use Rattle.zk_model.specs.Coins.{coin_word}
+use Rattle.zk_model.specs.Coins.{coin_word, stream_bytes}
 use Rattle.zk_model.specs.Extension.{choice_of}
-use Rattle.zk_model.specs.Dealing.{some_key, stream_bytes, pad_at, dealt_pair, dealt_pairs, dealt_pads, dealt_transfer, dealt_key, dealt_code_seed, dealt_version, by_transfer, dealt_prover_unit, dealt_verifier_unit, dealt_prover, dealt_verifier}
+use Rattle.dealer_files.specs.Dealing.{some_key, pad_at, dealt_pair, dealt_pairs, dealt_pads, dealt_transfer, dealt_key, dealt_code_seed, dealt_version, by_transfer, dealt_prover_unit, dealt_verifier_unit, dealt_prover, dealt_verifier}
 use Rattle.zk_model.specs.Files.{IsCodeSeed, IsProverUnit, IsVerifierUnit, IsProverFile, IsVerifierFile, AreParams, AreTransfers, dealt_per_unit, most_units}
 use Rattle.zk_model.specs.declared.FileVersion.TheVariants.{First, Second}
 use Rattle.zk_model.specs.declared.Kind.{Kind}

@@ -8,7 +8,7 @@ use Rattle.zk_model.specs.Mac.{Pair}
 use Rattle.zk_model.specs.Coins.{coin_word}
 use Rattle.zk_model.specs.Extension.{choice_of}
 use Rattle.zk_model.specs.Files.{dealt_per_unit}
-use Rattle.zk_model.specs.Dealing.{dealt_pair, dealt_pairs, dealt_pads, dealt_transfer}
+use Rattle.dealer_files.specs.Dealing.{dealt_pair, dealt_pairs, dealt_pads, dealt_transfer}
 use Rattle.zk_model.specs.declared.Params.{Params}
 use Rattle.dealer_files.specs.Flat.{transfers_per_unit}
 use Rattle.dealer_files.specs.Words.{word_pair, word_pads, word_transfer}

@@ -7,7 +7,7 @@ use Rattle.zk_model.specs.Field.{from_word}
 use Rattle.zk_model.specs.Coins.{coin_word}
 use Rattle.zk_model.specs.Extension.{choice_of}
 use Rattle.zk_model.specs.Files.{Transfer, UnitsMatch, AreDealt}
-use Rattle.zk_model.specs.Dealing.{some_key, dealt_key, dealt_pads, dealt_transfer, dealt_prover, dealt_verifier, dealt_prover_unit, dealt_verifier_unit}
+use Rattle.dealer_files.specs.Dealing.{some_key, dealt_key, dealt_pads, dealt_transfer, dealt_prover, dealt_verifier, dealt_prover_unit, dealt_verifier_unit}
 use Rattle.zk_model.specs.declared.Params.{Params}
 
 -- a key is not 0

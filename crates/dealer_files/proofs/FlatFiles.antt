@@ -7,7 +7,8 @@ use Rattle.std.proofs.lemmas.List.FromFn.{length-map-range_with_len}
 use Rattle.zk_model.specs.Bytes.{LeftRight}
 use Rattle.zk_model.specs.Mac.{Pair, fitting_key}
 use Rattle.zk_model.specs.Files.{Transfer, ProverUnit, VerifierUnit, span_pairs, span_dealt_keys, prover_unit, verifier_unit, unit_transfers, unit_pads, dealt_per_unit}
-use Rattle.zk_model.specs.Dealing.{by_transfer, dealt_pair, dealt_pairs, dealt_pads, dealt_transfer, dealt_key, dealt_code_seed, dealt_version, stream_bytes, dealt_prover_unit, dealt_verifier_unit, dealt_prover, dealt_verifier}
+use Rattle.zk_model.specs.Coins.{stream_bytes}
+use Rattle.dealer_files.specs.Dealing.{by_transfer, dealt_pair, dealt_pairs, dealt_pads, dealt_transfer, dealt_key, dealt_code_seed, dealt_version, dealt_prover_unit, dealt_verifier_unit, dealt_prover, dealt_verifier}
 use Rattle.zk_model.specs.declared.FileVersion.{FileVersion}
 use Rattle.zk_model.specs.declared.Params.{Params}
 use Rattle.zk_model.specs.declared.Span.{Span}

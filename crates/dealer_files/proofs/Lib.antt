@@ -10,3 +10,4 @@ pub mod Fitting
 pub mod ReadItems
 pub mod ReadBlocks
 pub mod ReadFiles
+pub mod ExampleVersions

@@ -6,14 +6,14 @@ use Rattle.std.proofs.lemmas.List.Elements.{All-from_recursion, All-append}
 use Rattle.std.proofs.Math.Seq.{drop-append_seam, take-add}
 use Rattle.zk_model.specs.Field.{prime}
 use Rattle.zk_model.specs.Files.{dealt_per_unit}
-use Rattle.zk_model.specs.FileFaults.{word64_at, params_at, block_length, block_start, file_length, elements_per_unit, IsUnitElement, IsTransferBit, IsBadPlace, IsFirstBadPlace, IsInRange}
+use Rattle.dealer_files.specs.FileFaults.{word64_at, params_at, block_length, block_start, file_length, elements_per_unit, IsUnitElement, IsTransferBit, IsBadPlace, IsFirstBadPlace, IsInRange}
 use Rattle.zk_model.specs.declared.Params.{Params}
 use Rattle.zk_model.specs.declared.Side.{Side}
 use Rattle.zk_model.specs.declared.Side.TheVariants.{Prover, Verifier}
 use Rattle.zk_model.specs.declared.limits.TheConstants.{MAX_DEALT_UNITS}
 use Rattle.dealer_files.specs.Flat.{piece, transfers_per_unit}
-use Rattle.dealer_files.specs.Faults.{HasBody, IsFirstFault}
-use Rattle.dealer_files.specs.Reading.{Spelled, a_pair, a_transfer, AreAppended, AreElements, AreBits, IsElementFault, IsElementFaultOr, IsBitFaultOr, IsUnitInRange, AreBlocks}
+use Rattle.dealer_files.specs.Faults.{HasBody, IsFirstFileFault}
+use Rattle.dealer_files.specs.Reading.{Spelled, a_pair, a_transfer, AreAppended, AreElementsFrom, AreBits, IsElementFault, IsElementFaultOr, IsBitFaultOr, IsUnitInRange, AreBlocks}
 use Rattle.dealer_files.specs.declared.fault.FileFault.{FileFault}
 use Rattle.dealer_files.specs.declared.fault.FileFault.TheVariants.{BadMagic, BadKind, BadParam, Length, BadElement, ZeroKey, BadDigest, NoMemory}
 use Rattle.dealer_files.proofs.ReadItems.{le_or_more}
@@ -136,7 +136,7 @@ one_or_other (suc a) (suc b) = up (one_or_other a b) where
 
 -- no element before a place is the prime or more: those of the units before it, and those of its own unit that stand before it
 no_element_before : (side : Side) (bytes : List ℕ) (unit place : ℕ)
-    → ((u : ℕ) → u < unit → AreElements bytes (block_start side (params_at bytes) u) (elements_per_unit side (params_at bytes)))
+    → ((u : ℕ) → u < unit → AreElementsFrom bytes (block_start side (params_at bytes) u) (elements_per_unit side (params_at bytes)))
     → place < block_start side (params_at bytes) unit + block_length side (params_at bytes)
     → ((i : ℕ) → i < elements_per_unit side (params_at bytes) → block_start side (params_at bytes) unit + 8 * i < place
     → word64_at bytes (block_start side (params_at bytes) unit + 8 * i) < prime)
@@ -201,7 +201,7 @@ prover_in_range bytes all place (inr bad) =
 prover_first_element : (bytes : List ℕ) (unit place number : ℕ)
     → ((u : ℕ) → u < unit → IsUnitInRange Prover (params_at bytes) bytes u)
     → number < elements_per_unit Prover (params_at bytes) → place ≡ block_start Prover (params_at bytes) unit + 8 * number
-    → AreElements bytes (block_start Prover (params_at bytes) unit) number
+    → AreElementsFrom bytes (block_start Prover (params_at bytes) unit) number
     → (other : ℕ) → other < place → ¬ IsBadPlace Prover bytes other
 prover_first_element bytes unit place number all within stands before other less (inl bad) =
     no_element_before Prover bytes unit place (λ u below. (all u below).0) (omega (arith, stands, within))
@@ -214,7 +214,7 @@ prover_first_bit : (bytes : List ℕ) (unit place number : ℕ)
     → ((u : ℕ) → u < unit → IsUnitInRange Prover (params_at bytes) bytes u)
     → number < transfers_per_unit (params_at bytes)
     → place ≡ block_start Prover (params_at bytes) unit + 16 * dealt_per_unit (params_at bytes) + 17 * number
-    → AreElements bytes (block_start Prover (params_at bytes) unit) (elements_per_unit Prover (params_at bytes))
+    → AreElementsFrom bytes (block_start Prover (params_at bytes) unit) (elements_per_unit Prover (params_at bytes))
     → AreBits bytes (block_start Prover (params_at bytes) unit + 16 * dealt_per_unit (params_at bytes)) number
     → (other : ℕ) → other < place → ¬ IsBadPlace Prover bytes other
 prover_first_bit bytes unit place number all within stands elements before other less (inl bad) =
@@ -226,7 +226,7 @@ prover_first_bit bytes unit place number all within stands elements before other
 -- what may come of reading elements is the first fault, where the first bad one stands at the first bad place
 element_fault_first : (side : Side) (bytes : List ℕ) (start count : ℕ) (reason : FileFault) → HasBody side bytes
     → ((place : ℕ) → IsElementFault bytes start count place → IsFirstBadPlace side bytes place)
-    → IsElementFaultOr bytes start count reason → IsFirstFault side bytes reason
+    → IsElementFaultOr bytes start count reason → IsFirstFileFault side bytes reason
 element_fault_first side bytes start count (BadElement place) body first is = (body, first place is)
 element_fault_first side bytes start count NoMemory body first is = tt
 element_fault_first side bytes start count BadMagic body first is = absurd is
@@ -241,29 +241,29 @@ element_first : (side : Side) (bytes : List ℕ) (params : Params) (unit start c
     → ((place : ℕ) → IsUnitElement side (params_at bytes) place → prime ≤ word64_at bytes place → IsBadPlace side bytes place)
     → ((place number : ℕ) → ((u : ℕ) → u < unit → IsUnitInRange side (params_at bytes) bytes u)
     → number < elements_per_unit side (params_at bytes) → place ≡ block_start side (params_at bytes) unit + 8 * number
-    → AreElements bytes (block_start side (params_at bytes) unit) number
+    → AreElementsFrom bytes (block_start side (params_at bytes) unit) number
     → (other : ℕ) → other < place → ¬ IsBadPlace side bytes other)
     → unit < params.total → start ≡ block_start side params unit → count ≡ elements_per_unit side params
     → ((u : ℕ) → u < unit → IsUnitInRange side params bytes u)
-    → IsElementFaultOr bytes start count reason → IsFirstFault side bytes reason
+    → IsElementFaultOr bytes start count reason → IsFirstFileFault side bytes reason
 element_first side bytes params unit start count reason same body bad first = subst (λ (p : Params). unit < p.total → start ≡ block_start side p unit
     → count ≡ elements_per_unit side p → ((u : ℕ) → u < unit → IsUnitInRange side p bytes u)
-    → IsElementFaultOr bytes start count reason → IsFirstFault side bytes reason) (sym same) at
+    → IsElementFaultOr bytes start count reason → IsFirstFileFault side bytes reason) (sym same) at
   where
     at : unit < (params_at bytes).total → start ≡ block_start side (params_at bytes) unit
         → count ≡ elements_per_unit side (params_at bytes) → ((u : ℕ) → u < unit → IsUnitInRange side (params_at bytes) bytes u)
-        → IsElementFaultOr bytes start count reason → IsFirstFault side bytes reason
+        → IsElementFaultOr bytes start count reason → IsFirstFileFault side bytes reason
     at below s n all = element_fault_first side bytes start count reason body (λ place is.
         let stands = is.stands ∙ ap (λ k. k + 8 * is.number) s in record {
           bad = bad place (record { unit = unit; number = is.number; unit_within = below; number_within = omega (arith, is.within, n); stands = stands }) is.bad;
-          first = first place is.number all (omega (arith, is.within, n)) stands (subst (λ (k : ℕ). AreElements bytes k is.number) s is.before);
+          first = first place is.number all (omega (arith, is.within, n)) stands (subst (λ (k : ℕ). AreElementsFrom bytes k is.number) s is.before);
         })
 
 -- of a prover's file
 pub prover_element_first : (bytes : List ℕ) (params : Params) (unit start count : ℕ) (reason : FileFault) → params ≡ params_at bytes
     → HasBody Prover bytes → unit < params.total → start ≡ block_start Prover params unit → count ≡ elements_per_unit Prover params
     → ((u : ℕ) → u < unit → IsUnitInRange Prover params bytes u)
-    → IsElementFaultOr bytes start count reason → IsFirstFault Prover bytes reason
+    → IsElementFaultOr bytes start count reason → IsFirstFileFault Prover bytes reason
 prover_element_first bytes params unit start count reason same body =
     element_first Prover bytes params unit start count reason same body (λ place at bad. inl (at, bad)) (prover_first_element bytes unit)
 
@@ -271,17 +271,17 @@ prover_element_first bytes params unit start count reason same body =
 pub prover_bit_first : (bytes : List ℕ) (params : Params) (unit start behind count dealt : ℕ) (reason : FileFault) → params ≡ params_at bytes
     → HasBody Prover bytes → unit < params.total → start ≡ block_start Prover params unit → behind ≡ start + 16 * dealt
     → dealt ≡ dealt_per_unit params → count ≡ transfers_per_unit params
-    → ((u : ℕ) → u < unit → IsUnitInRange Prover params bytes u) → AreElements bytes start (2 * dealt)
-    → IsBitFaultOr bytes behind count reason → IsFirstFault Prover bytes reason
+    → ((u : ℕ) → u < unit → IsUnitInRange Prover params bytes u) → AreElementsFrom bytes start (2 * dealt)
+    → IsBitFaultOr bytes behind count reason → IsFirstFileFault Prover bytes reason
 prover_bit_first bytes params unit start behind count dealt reason same body = subst (λ (p : Params). unit < p.total → start ≡ block_start Prover p unit
     → behind ≡ start + 16 * dealt → dealt ≡ dealt_per_unit p → count ≡ transfers_per_unit p
-    → ((u : ℕ) → u < unit → IsUnitInRange Prover p bytes u) → AreElements bytes start (2 * dealt)
-    → IsBitFaultOr bytes behind count reason → IsFirstFault Prover bytes reason) (sym same) (at reason)
+    → ((u : ℕ) → u < unit → IsUnitInRange Prover p bytes u) → AreElementsFrom bytes start (2 * dealt)
+    → IsBitFaultOr bytes behind count reason → IsFirstFileFault Prover bytes reason) (sym same) (at reason)
   where
     at : (r : FileFault) → unit < (params_at bytes).total → start ≡ block_start Prover (params_at bytes) unit
         → behind ≡ start + 16 * dealt → dealt ≡ dealt_per_unit (params_at bytes) → count ≡ transfers_per_unit (params_at bytes)
-        → ((u : ℕ) → u < unit → IsUnitInRange Prover (params_at bytes) bytes u) → AreElements bytes start (2 * dealt)
-        → IsBitFaultOr bytes behind count r → IsFirstFault Prover bytes r
+        → ((u : ℕ) → u < unit → IsUnitInRange Prover (params_at bytes) bytes u) → AreElementsFrom bytes start (2 * dealt)
+        → IsBitFaultOr bytes behind count r → IsFirstFileFault Prover bytes r
     at (BadElement place) below s b d n all elements is =
         let from : behind ≡ block_start Prover (params_at bytes) unit + 16 * dealt_per_unit (params_at bytes) = b ∙ (λ i. s i + 16 * d i) in
         let stands = is.stands ∙ ap (λ k. k + 17 * is.number) from in (
@@ -289,7 +289,7 @@ prover_bit_first bytes params unit start behind count dealt reason same body = s
           record {
             bad = inr (record { unit = unit; number = is.number; unit_within = below; number_within = omega (arith, is.within, n); stands = stands }, is.bad);
             first = prover_first_bit bytes unit place is.number all (omega (arith, is.within, n)) stands
-                (subst (λ (k : ℕ). AreElements bytes k (elements_per_unit Prover (params_at bytes))) s (subst (λ (k : ℕ). AreElements bytes start (2 * k)) d elements))
+                (subst (λ (k : ℕ). AreElementsFrom bytes k (elements_per_unit Prover (params_at bytes))) s (subst (λ (k : ℕ). AreElementsFrom bytes start (2 * k)) d elements))
                 (subst (λ (k : ℕ). AreBits bytes k is.number) from is.before);
           },
         )
@@ -317,9 +317,9 @@ parts_within form other side bytes params unit start behind dealt each same body
 
 -- a prover's unit whose elements and bits are read
 pub prover_unit_read : (params : Params) (bytes : List ℕ) (unit start dealt each : ℕ) → StandsAt a_pair a_transfer Prover params unit start (start + 16 * dealt) dealt each
-    → AreElements bytes start (2 * dealt) → AreBits bytes (start + 16 * dealt) each → IsUnitInRange Prover params bytes unit
+    → AreElementsFrom bytes start (2 * dealt) → AreBits bytes (start + 16 * dealt) each → IsUnitInRange Prover params bytes unit
 prover_unit_read params bytes unit start dealt each at elements bits = (
-  subst (λ (n : ℕ). AreElements bytes n (2 * dealt_per_unit params)) at.start_is (subst (λ (n : ℕ). AreElements bytes start (2 * n)) at.dealt_is elements),
+  subst (λ (n : ℕ). AreElementsFrom bytes n (2 * dealt_per_unit params)) at.start_is (subst (λ (n : ℕ). AreElementsFrom bytes start (2 * n)) at.dealt_is elements),
   subst (λ (n : ℕ). AreBits bytes n (transfers_per_unit params)) (λ i. at.start_is i + 16 * at.dealt_is i)
       (subst (λ (n : ℕ). AreBits bytes (start + 16 * dealt) n) at.each_is bits),
 )
@@ -354,7 +354,7 @@ verifier_key_first bytes bad = record {
 verifier_first_element : (bytes : List ℕ) (unit place number : ℕ) → word64_at bytes 128 < prime
     → ((u : ℕ) → u < unit → IsUnitInRange Verifier (params_at bytes) bytes u)
     → number < elements_per_unit Verifier (params_at bytes) → place ≡ block_start Verifier (params_at bytes) unit + 8 * number
-    → AreElements bytes (block_start Verifier (params_at bytes) unit) number
+    → AreElementsFrom bytes (block_start Verifier (params_at bytes) unit) number
     → (other : ℕ) → other < place → ¬ IsBadPlace Verifier bytes other
 verifier_first_element bytes unit place number key all within stands before other less (inl (inl first, bad)) =
     let at = subst (λ (n : ℕ). prime ≤ word64_at bytes n) first bad in
@@ -367,13 +367,13 @@ verifier_first_element bytes unit place number key all within stands before othe
 pub verifier_element_first : (bytes : List ℕ) (params : Params) (unit start count : ℕ) (reason : FileFault) → params ≡ params_at bytes
     → HasBody Verifier bytes → word64_at bytes 128 < prime → unit < params.total → start ≡ block_start Verifier params unit
     → count ≡ elements_per_unit Verifier params → ((u : ℕ) → u < unit → IsUnitInRange Verifier params bytes u)
-    → IsElementFaultOr bytes start count reason → IsFirstFault Verifier bytes reason
+    → IsElementFaultOr bytes start count reason → IsFirstFileFault Verifier bytes reason
 verifier_element_first bytes params unit start count reason same body key =
     element_first Verifier bytes params unit start count reason same body (λ place at bad. inl (inr at, bad))
     (λ place number. verifier_first_element bytes unit place number key)
 
 -- a verifier's unit whose keys are read
 pub verifier_unit_read : (params : Params) (bytes : List ℕ) (unit start dealt : ℕ) → start ≡ block_start Verifier params unit
-    → dealt ≡ dealt_per_unit params → AreElements bytes start dealt → IsUnitInRange Verifier params bytes unit
+    → dealt ≡ dealt_per_unit params → AreElementsFrom bytes start dealt → IsUnitInRange Verifier params bytes unit
 verifier_unit_read params bytes unit start dealt s d elements =
-    subst (λ (n : ℕ). AreElements bytes n (dealt_per_unit params)) s (subst (λ (n : ℕ). AreElements bytes start n) d elements)
+    subst (λ (n : ℕ). AreElementsFrom bytes n (dealt_per_unit params)) s (subst (λ (n : ℕ). AreElementsFrom bytes start n) d elements)

@@ -12,7 +12,7 @@ use Rattle.zk_model.specs.Bytes.{LeftRight, AreBytes, element_bytes}
 use Rattle.zk_model.specs.Mac.{Pair}
 use Rattle.zk_model.specs.Files.{Transfer, AreParams, AreTransfers, IsCodeSeed, IsProverUnit, IsVerifierUnit, IsProverFile, IsVerifierFile, dealt_per_unit, most_units}
 use Rattle.zk_model.specs.FileBytes.{kind_code, magic_word, params_bytes, header_bytes, prover_unit_bytes, verifier_unit_bytes, prover_file_bytes, verifier_file_bytes, sealed}
-use Rattle.zk_model.specs.FileFaults.{side_code, kind_of, params_at, version_at, block_length, block_start, HasDigest}
+use Rattle.dealer_files.specs.FileFaults.{side_code, kind_of, params_at, version_at, block_length, block_start, HasDigest}
 use Rattle.zk_model.specs.declared.FileVersion.{FileVersion}
 use Rattle.zk_model.specs.declared.Params.{Params}
 use Rattle.zk_model.specs.declared.Side.{Side}

@@ -7,8 +7,8 @@ use Rattle.std.proofs.Math.Seq.{take-add}
 use Rattle.zk_model.specs.Bits.{from_bit}
 use Rattle.zk_model.specs.Bytes.{element_bytes}
 use Rattle.zk_model.specs.Field.{prime}
-use Rattle.zk_model.specs.FileFaults.{word64_at}
-use Rattle.dealer_files.specs.Reading.{Spelled, AreAppended, AreElements, AreBits, IsElementFaultOr}
+use Rattle.dealer_files.specs.FileFaults.{word64_at}
+use Rattle.dealer_files.specs.Reading.{Spelled, AreAppended, AreElementsFrom, AreBits, IsElementFaultOr}
 use Rattle.dealer_files.specs.declared.fault.FileFault.{FileFault}
 use Rattle.dealer_files.specs.declared.fault.FileFault.TheVariants.{BadElement}
 
@@ -52,7 +52,7 @@ le_or_more (suc i) (suc count) most = more (le_or_more i count (omega arith)) wh
   more (inr same) = inr (omega arith)
 
 -- one element more is below the prime
-pub element_good : (bytes : List ℕ) (place count : ℕ) → word64_at bytes (place + 8 * count) < prime → AreElements bytes place count → AreElements bytes place (count + 1)
+pub element_good : (bytes : List ℕ) (place count : ℕ) → word64_at bytes (place + 8 * count) < prime → AreElementsFrom bytes place count → AreElementsFrom bytes place (count + 1)
 element_good bytes place count good far i below = by_cases i (le_or_more i count (omega (arith, below)))
   where
     by_cases : (i : ℕ) → (i < count) ⊎ (i ≡ count) → word64_at bytes (place + 8 * i) < prime
@@ -69,15 +69,15 @@ bit_good bytes place count good far i below = by_cases i (le_or_more i count (om
 
 -- two elements more
 pub two_good : (bytes : List ℕ) (place count : ℕ) → word64_at bytes (place + 8 * (2 * count)) < prime → word64_at bytes (place + 8 * (2 * count + 1)) < prime
-    → AreElements bytes place (2 * count) → AreElements bytes place (2 * (count + 1))
+    → AreElementsFrom bytes place (2 * count) → AreElementsFrom bytes place (2 * (count + 1))
 two_good bytes place count first second far =
     let end : 2 * count + 1 + 1 ≡ 2 * (count + 1) = omega arith in
-    subst (λ (n : ℕ). AreElements bytes place n) end
+    subst (λ (n : ℕ). AreElementsFrom bytes place n) end
     (element_good bytes place (2 * count + 1) second (element_good bytes place (2 * count) first far))
 
 -- an element that is the prime or more, after some that are not
 pub element_fault : (bytes : List ℕ) (place count number fault : ℕ) (reason : FileFault) → reason ≡ BadElement fault → number < count
-    → fault ≡ place + 8 * number → prime ≤ word64_at bytes fault → AreElements bytes place number → IsElementFaultOr bytes place count reason
+    → fault ≡ place + 8 * number → prime ≤ word64_at bytes fault → AreElementsFrom bytes place number → IsElementFaultOr bytes place count reason
 element_fault bytes place count number fault reason is within stands bad before =
     subst (IsElementFaultOr bytes place count) (sym is)
     (record { number = number; within = within; stands = stands; bad = bad; before = before })

@@ -1,7 +1,7 @@
 -- Which fault comes first where bytes are no dealt file.
 use Rattle.std.specs.Prelude.{◌≡◌, ◌⊎◌, ℕ, List, length, take, drop, ⊤}
 use Rattle.std.specs.Int.{w32, w64, to_le_bytes}
-use Rattle.zk_model.specs.FileFaults.{params_at, file_length, HasMagic, HasHeader, IsOfSide, HasParams, HasLength, IsInRange, IsFirstBadPlace, HasKey, HasDigest}
+use Rattle.dealer_files.specs.FileFaults.{params_at, file_length, HasMagic, HasHeader, IsOfSide, HasParams, HasLength, IsInRange, IsFirstBadPlace, HasKey, HasDigest}
 use Rattle.zk_model.specs.declared.Params.{Params}
 use Rattle.zk_model.specs.declared.Side.{Side}
 use Rattle.dealer_files.specs.declared.fault.FileFault.{FileFault}
@@ -33,15 +33,15 @@ pub record IsDealtFile (side : Side) (bytes : List ℕ) : Type 0 where
   pub digest : HasDigest bytes
 
 -- this fault applies, and none that comes before it
-abbrev pub IsFirstFault : Side → List ℕ → FileFault → Type 0
-IsFirstFault side bytes BadMagic = ¬ HasMagic bytes
-IsFirstFault side bytes BadKind = HasMagic bytes × HasHeader bytes × ¬ IsOfSide side bytes
-IsFirstFault side bytes BadParam = HasMagic bytes × HasHeader bytes × IsOfSide side bytes × ¬ HasParams bytes
-IsFirstFault side bytes (Length need got) = (got ≡ length bytes)
+abbrev pub IsFirstFileFault : Side → List ℕ → FileFault → Type 0
+IsFirstFileFault side bytes BadMagic = ¬ HasMagic bytes
+IsFirstFileFault side bytes BadKind = HasMagic bytes × HasHeader bytes × ¬ IsOfSide side bytes
+IsFirstFileFault side bytes BadParam = HasMagic bytes × HasHeader bytes × IsOfSide side bytes × ¬ HasParams bytes
+IsFirstFileFault side bytes (Length need got) = (got ≡ length bytes)
     × ((HasMagic bytes × ¬ HasHeader bytes × (need ≡ 128))
     ⊎ (HasHead side bytes × ¬ HasLength side bytes × (need ≡ file_length side (params_at bytes))))
-IsFirstFault side bytes (BadElement place) = HasBody side bytes × IsFirstBadPlace side bytes place
-IsFirstFault side bytes ZeroKey = HasBody side bytes × IsInRange side bytes × ¬ HasKey side bytes
-IsFirstFault side bytes BadDigest =
+IsFirstFileFault side bytes (BadElement place) = HasBody side bytes × IsFirstBadPlace side bytes place
+IsFirstFileFault side bytes ZeroKey = HasBody side bytes × IsInRange side bytes × ¬ HasKey side bytes
+IsFirstFileFault side bytes BadDigest =
     HasBody side bytes × IsInRange side bytes × HasKey side bytes × ¬ HasDigest bytes
-IsFirstFault side bytes NoMemory = ⊤
+IsFirstFileFault side bytes NoMemory = ⊤

@@ -66,8 +66,8 @@ pub record AreWhole {A B : Type 0} (params : Params) (items : List A) (others : 
   pub transfers : length others ≡ transfers_per_unit params * params.total
 
 -- the files of these headers
-abbrev pub prover_of : Head → List Pair → List Transfer → ProverFile
-prover_of head pairs transfers = flat_prover head.version head.params head.id head.coin_key head.code_seed pairs transfers
+abbrev pub prover_of_parts : Head → List Pair → List Transfer → ProverFile
+prover_of_parts head pairs transfers = flat_prover head.version head.params head.id head.coin_key head.code_seed pairs transfers
 
-abbrev pub verifier_of : Head → ℕ → List ℕ → List LeftRight → VerifierFile
-verifier_of head key keys pads = flat_verifier head.version head.params head.id head.coin_key head.code_seed key keys pads
+abbrev pub verifier_of_parts : Head → ℕ → List ℕ → List LeftRight → VerifierFile
+verifier_of_parts head key keys pads = flat_verifier head.version head.params head.id head.coin_key head.code_seed key keys pads

@@ -1,3 +1,5 @@
+pub mod FileFaults
+pub mod Dealing
 pub mod Flat
 pub mod Words
 pub mod Dealt

@@ -5,7 +5,7 @@ use Rattle.zk_model.specs.Bytes.{LeftRight, AreBytes, AreBothBytes, element_byte
 use Rattle.zk_model.specs.Mac.{Pair}
 use Rattle.zk_model.specs.Files.{Transfer, dealt_per_unit}
 use Rattle.zk_model.specs.FileBytes.{pair_bytes, transfer_bytes, pads_bytes}
-use Rattle.zk_model.specs.FileFaults.{word64_at, block_length, block_start, elements_per_unit}
+use Rattle.dealer_files.specs.FileFaults.{word64_at, block_length, block_start, elements_per_unit}
 use Rattle.zk_model.specs.declared.Params.{Params}
 use Rattle.zk_model.specs.declared.Side.{Side}
 use Rattle.zk_model.specs.declared.Side.TheVariants.{Prover, Verifier}
@@ -45,8 +45,8 @@ pub record AreAppended {A : Type 0}
   pub hold : All form.Holds items
 
 -- the first so many elements from a place on are below the prime
-abbrev pub AreElements : List ℕ → ℕ → ℕ → Type 0
-AreElements bytes place count = (i : ℕ) → i < count → word64_at bytes (place + 8 * i) < prime
+abbrev pub AreElementsFrom : List ℕ → ℕ → ℕ → Type 0
+AreElementsFrom bytes place count = (i : ℕ) → i < count → word64_at bytes (place + 8 * i) < prime
 
 -- and the bits of the first so many transfers are 0 or 1
 abbrev pub AreBits : List ℕ → ℕ → ℕ → Type 0
@@ -58,7 +58,7 @@ pub record IsElementFault (bytes : List ℕ) (place count fault : ℕ) : Type 0 
   pub within : number < count
   pub stands : fault ≡ place + 8 * number
   pub bad : prime ≤ word64_at bytes fault
-  pub before : AreElements bytes place number
+  pub before : AreElementsFrom bytes place number
 
 pub record IsBitFault (bytes : List ℕ) (place count fault : ℕ) : Type 0 where
   pub number : ℕ
@@ -81,10 +81,10 @@ IsBitFaultOr bytes place count other = ⊥
 -- the elements and bits of a unit are in range
 abbrev pub IsUnitInRange : Side → Params → List ℕ → ℕ → Type 0
 IsUnitInRange Prover params bytes unit =
-    AreElements bytes (block_start Prover params unit) (elements_per_unit Prover params)
+    AreElementsFrom bytes (block_start Prover params unit) (elements_per_unit Prover params)
     × AreBits bytes (block_start Prover params unit + 16 * dealt_per_unit params) (transfers_per_unit params)
 IsUnitInRange Verifier params bytes unit =
-    AreElements bytes (block_start Verifier params unit) (elements_per_unit Verifier params)
+    AreElementsFrom bytes (block_start Verifier params unit) (elements_per_unit Verifier params)
 
 -- the flat lists of the first n units spell their blocks
 pub record AreBlocks {A B : Type 0}

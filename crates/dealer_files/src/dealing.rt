@@ -3,7 +3,7 @@ ghost use Rattle.std.specs.Prelude.{◌≡◌, ◌+◌, ◌*◌, ◌/◌, ◌<�
 ghost use Rattle.std.specs.List.{range_with_len};
 ghost use Rattle.std.specs.Int.{w64, to_le_bytes};
 ghost use Rattle.zk_model.specs.Mac.{fitting_key};
-ghost use Rattle.zk_model.specs.Dealing.{dealt_key, dealt_code_seed, dealt_version, dealt_pairs, dealt_pads, dealt_transfer, dealt_prover, dealt_verifier};
+ghost use Rattle.dealer_files.specs.Dealing.{dealt_key, dealt_code_seed, dealt_version, dealt_pairs, dealt_pads, dealt_transfer, dealt_prover, dealt_verifier};
 ghost use Rattle.zk_model.specs.Files.{AreParams, IsProverFile, IsVerifierFile, AreDealt};
 ghost use Rattle.dealer_files.specs.Flat.{unit_by_unit};
 ghost use Rattle.dealer_files.specs.Words.{word_pair, word_pads, word_transfer};

@@ -3,9 +3,9 @@ ghost use Rattle.std.specs.Prelude.{◌≡◌, ◌<◌, take, drop, IfOk, IfErr}
 ghost use Rattle.zk_model.specs.Bytes.{element_bytes};
 ghost use Rattle.zk_model.specs.Field.{prime, IsElement};
 ghost use Rattle.zk_model.specs.FileBytes.{prover_file_bytes, verifier_file_bytes};
-ghost use Rattle.zk_model.specs.FileFaults.{params_at, word64_at};
+ghost use Rattle.dealer_files.specs.FileFaults.{params_at, word64_at};
 ghost use Rattle.zk_model.specs.declared.Side.TheVariants.{Prover, Verifier};
-ghost use Rattle.dealer_files.specs.Faults.{HasBody, IsDealtFile, IsFirstFault};
+ghost use Rattle.dealer_files.specs.Faults.{HasBody, IsDealtFile, IsFirstFileFault};
 ghost use Rattle.dealer_files.specs.Reading.{a_pair, an_element, a_transfer, both_pads, AreBlocks};
 
 use crate::fault::FileFault;
@@ -37,7 +37,7 @@ fn read_prover_blocks(
     requires params { params.now ≡ params_at bytes.now }
     ensures blocks { IfOk result (λ blocks. AreBlocks a_pair a_transfer Prover params.now bytes.now
         params.now.total blocks.pairs.items blocks.transfers.items) }
-    ensures fault { IfErr result (λ fault. IsFirstFault Prover bytes.now fault) }
+    ensures fault { IfErr result (λ fault. IsFirstFileFault Prover bytes.now fault) }
 {
     let dealt = dealt_per_unit(params);
     let each = transfers_per_unit(params);
@@ -61,7 +61,7 @@ fn read_prover_blocks(
 pub fn decode_prover(alloc: Global, bytes: &[u8]) -> Result<ProverFile, FileFault>
     ensures encoded { IfOk result (λ file. prover_file_bytes file ≡ bytes.now) }
     ensures dealt { IfOk result (λ _. IsDealtFile Prover bytes.now) }
-    ensures fault { IfErr result (λ fault. IsFirstFault Prover bytes.now fault) }
+    ensures fault { IfErr result (λ fault. IsFirstFileFault Prover bytes.now fault) }
 {
     let head = read_head(bytes, Side::Prover)?;
     let blocks = read_prover_blocks(alloc, bytes, &head.params)?;
@@ -85,7 +85,7 @@ fn read_key(bytes: &[u8]) -> Result<Fe, FileFault>
     ensures value { IfOk result (λ key. key ≡ word64_at bytes.now 128) }
     ensures element { IfOk result (λ key. IsElement key) }
     ensures good { IfOk result (λ _. word64_at bytes.now 128 < prime) }
-    ensures fault { IfErr result (λ fault. IsFirstFault Verifier bytes.now fault) }
+    ensures fault { IfErr result (λ fault. IsFirstFileFault Verifier bytes.now fault) }
 {
     let key = read_element(bytes, 128)?;
     Ok(key)
@@ -103,7 +103,7 @@ fn read_verifier_blocks(
     requires key { word64_at bytes.now 128 < prime }
     ensures blocks { IfOk result (λ blocks. AreBlocks an_element both_pads Verifier params.now bytes.now
         params.now.total blocks.keys.items blocks.pads.items) }
-    ensures fault { IfErr result (λ fault. IsFirstFault Verifier bytes.now fault) }
+    ensures fault { IfErr result (λ fault. IsFirstFileFault Verifier bytes.now fault) }
 {
     let dealt = dealt_per_unit(params);
     let each = transfers_per_unit(params);
@@ -128,7 +128,7 @@ fn read_verifier_blocks(
 pub fn decode_verifier(alloc: Global, bytes: &[u8]) -> Result<VerifierFile, FileFault>
     ensures encoded { IfOk result (λ file. verifier_file_bytes file ≡ bytes.now) }
     ensures dealt { IfOk result (λ _. IsDealtFile Verifier bytes.now) }
-    ensures fault { IfErr result (λ fault. IsFirstFault Verifier bytes.now fault) }
+    ensures fault { IfErr result (λ fault. IsFirstFileFault Verifier bytes.now fault) }
 {
     let head = read_head(bytes, Side::Verifier)?;
     let key = read_key(bytes)?;

@@ -3,11 +3,11 @@ ghost use Rattle.std.specs.Int.{w32, w64, to_le_bytes};
 ghost use Rattle.std.specs.Prelude.{◌≡◌, ◌*◌, ◌^◌, ◌<◌, ◌≤◌, ◌+◌, ◌↔◌, length, take, drop, slice_index, replicate, codes, IsTrue, IfOk, IfErr};
 ghost use Rattle.zk_model.specs.Files.{AreParams, AreWithinLimits, IsCodeSeed, most_units};
 ghost use Rattle.zk_model.specs.FileBytes.{header_bytes, magic_word};
-ghost use Rattle.zk_model.specs.FileFaults.{side_code, params_at, version_at, word32_at, word64_at, block_length, file_length, HasMagic, IsOfSide, HasParams, HasDigest};
+ghost use Rattle.dealer_files.specs.FileFaults.{side_code, params_at, version_at, word32_at, word64_at, block_length, file_length, HasMagic, IsOfSide, HasParams, HasDigest};
 ghost use Rattle.zk_model.specs.Bytes.{AreBytes, element_bytes};
 ghost use Rattle.zk_model.specs.Field.{prime, IsElement};
 ghost use Rattle.dealer_files.specs.declared.fault.FileFault.TheVariants as fault;
-ghost use Rattle.dealer_files.specs.Faults.{HasHead, HasBody, SpellsNumbers, IsFirstFault};
+ghost use Rattle.dealer_files.specs.Faults.{HasHead, HasBody, SpellsNumbers, IsFirstFileFault};
 
 use crate::fault::FileFault;
 use crate::unit::{dealt_per_unit, transfers_per_unit};
@@ -225,7 +225,7 @@ pub(crate) fn read_head(bytes: &[u8], side: Side) -> Result<Head, FileFault>
     ensures coin_key { IfOk result (λ head. head.coin_key ≡ take 32 (drop 64 bytes.now)) }
     ensures code_seed { IfOk result (λ head. head.code_seed ≡ take 32 (drop 96 bytes.now)) }
     ensures octets { IfOk result (λ head. AreBytes 32 head.id × AreBytes 32 head.coin_key) }
-    ensures fault { IfErr result (λ fault. IsFirstFault side bytes.now fault) }
+    ensures fault { IfErr result (λ fault. IsFirstFileFault side bytes.now fault) }
 {
     if !has_magic(bytes) {
         return Err(FileFault::BadMagic);

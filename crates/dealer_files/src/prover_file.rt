@@ -2,7 +2,7 @@
 ghost use Rattle.std.specs.Prelude.{◌≡◌, ◌*◌, ◌-◌, ◌<◌, ◌≤◌, ◌++◌, length, flat_map, IfOk, OnOk};
 ghost use Rattle.zk_model.specs.Files.{IsProverFile, dealt_per_unit, prover_unit, span_pairs, unit_transfers};
 ghost use Rattle.zk_model.specs.FileBytes.{prover_unit_bytes, prover_file_bytes};
-ghost use Rattle.dealer_files.specs.Flat.{prover_of, AreWhole};
+ghost use Rattle.dealer_files.specs.Flat.{prover_of_parts, AreWhole};
 
 use crate::encoding::{push_digest, push_header, push_pairs, push_transfers};
 use crate::head::{Head, file_length};
@@ -30,21 +30,21 @@ impl Model for ProverFile {
     ghost Value = { files.ProverFile };
 
     ghost use Rattle.zk_model.specs.Files.{IsProverFile};
-    ghost use Rattle.dealer_files.specs.Flat.{prover_of, AreWhole};
+    ghost use Rattle.dealer_files.specs.Flat.{prover_of_parts, AreWhole};
 
-    ghost view = { λ f. prover_of f.head f.pairs.items f.transfers.items };
+    ghost view = { λ f. prover_of_parts f.head f.pairs.items f.transfers.items };
 
     ghost invariant = { λ f. IsProverFile
-        (prover_of f.head f.pairs.items f.transfers.items)
+        (prover_of_parts f.head f.pairs.items f.transfers.items)
         × AreWhole f.head.params f.pairs.items f.transfers.items };
 }
 
 impl ProverFile {
     /// The file of these parts.
     pub(crate) fn new(head: Head, pairs: Vec<Pair>, transfers: Vec<Transfer>) -> Self
-        requires file { IsProverFile (prover_of head pairs.items transfers.items) }
+        requires file { IsProverFile (prover_of_parts head pairs.items transfers.items) }
         requires whole { AreWhole head.params pairs.items transfers.items }
-        ensures { result ≡ prover_of head pairs.items transfers.items }
+        ensures { result ≡ prover_of_parts head pairs.items transfers.items }
     {
         ProverFile {
             head,

@@ -1,6 +1,6 @@
 // The items of blocks, read.
 ghost use Rattle.std.specs.Prelude.{◌≡◌, ◌*◌, ◌<◌, ◌≤◌, ◌+◌, length, take, drop, IfOk, IfErr, OnOk};
-ghost use Rattle.dealer_files.specs.Reading.{a_pair, an_element, a_transfer, both_pads, AreAppended, AreElements, AreBits, IsElementFaultOr, IsBitFaultOr};
+ghost use Rattle.dealer_files.specs.Reading.{a_pair, an_element, a_transfer, both_pads, AreAppended, AreElementsFrom, AreBits, IsElementFaultOr, IsBitFaultOr};
 
 use crate::fault::FileFault;
 use crate::head::{bytes_at, read_element};
@@ -19,7 +19,7 @@ pub(crate) fn read_pairs(
     requires { at + 16 * count ≤ length bytes.now }
     ensures read { OnOk result
         (AreAppended a_pair pairs.old.items pairs.new.items count bytes.now at) }
-    ensures good { OnOk result (AreElements bytes.now at (2 * count)) }
+    ensures good { OnOk result (AreElementsFrom bytes.now at (2 * count)) }
     ensures fault { IfErr result (λ fault. IsElementFaultOr bytes.now at (2 * count) fault) }
 {
     for j in 0..count {
@@ -40,7 +40,7 @@ pub(crate) fn read_elements(
     requires { at + 8 * count ≤ length bytes.now }
     ensures read { OnOk result
         (AreAppended an_element elements.old.items elements.new.items count bytes.now at) }
-    ensures good { OnOk result (AreElements bytes.now at count) }
+    ensures good { OnOk result (AreElementsFrom bytes.now at count) }
     ensures fault { IfErr result (λ fault. IsElementFaultOr bytes.now at count fault) }
 {
     for i in 0..count {

@@ -4,7 +4,7 @@ ghost use Rattle.zk_model.specs.Field.{from_word};
 ghost use Rattle.zk_model.specs.Coins.{coin_word};
 ghost use Rattle.zk_model.specs.Files.{IsVerifierFile, dealt_per_unit, span_dealt_keys, unit_pads, verifier_unit};
 ghost use Rattle.zk_model.specs.FileBytes.{verifier_unit_bytes, verifier_file_bytes};
-ghost use Rattle.dealer_files.specs.Flat.{verifier_of, AreWhole};
+ghost use Rattle.dealer_files.specs.Flat.{verifier_of_parts, AreWhole};
 ghost use Rattle.zk_model.specs.declared.limits.TheConstants.{MAX_DEALT_UNITS};
 
 use crate::encoding::{push_digest, push_elements, push_header, push_pads};
@@ -33,12 +33,12 @@ impl Model for VerifierFile {
     ghost Value = { files.VerifierFile };
 
     ghost use Rattle.zk_model.specs.Files.{IsVerifierFile};
-    ghost use Rattle.dealer_files.specs.Flat.{verifier_of, AreWhole};
+    ghost use Rattle.dealer_files.specs.Flat.{verifier_of_parts, AreWhole};
 
-    ghost view = { λ f. verifier_of f.head f.key f.keys.items f.pads.items };
+    ghost view = { λ f. verifier_of_parts f.head f.key f.keys.items f.pads.items };
 
     ghost invariant = { λ f. IsVerifierFile
-        (verifier_of f.head f.key f.keys.items f.pads.items)
+        (verifier_of_parts f.head f.key f.keys.items f.pads.items)
         × AreWhole f.head.params f.keys.items f.pads.items };
 }
 
@@ -46,9 +46,9 @@ impl VerifierFile {
     /// The file of these parts.
     pub(crate) fn new(head: Head, key: Fe, keys: Vec<Fe>, pads: Vec<BlockPair>) -> Self
         requires file { IsVerifierFile
-            (verifier_of head key keys.items pads.items) }
+            (verifier_of_parts head key keys.items pads.items) }
         requires whole { AreWhole head.params keys.items pads.items }
-        ensures { result ≡ verifier_of head key keys.items pads.items }
+        ensures { result ≡ verifier_of_parts head key keys.items pads.items }
     {
         VerifierFile {
             head,

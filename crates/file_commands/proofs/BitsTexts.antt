@@ -8,16 +8,16 @@ use Rattle.zk_model.specs.Bits.{digit_of, digits_of}
 use Rattle.command_words.proofs.Rows.{equals_itself, or_false, same_text}
 use Rattle.command_words.specs.BitWords.{Bits}
 use Rattle.file_commands.specs.BitsTexts.{is_end}
-use Rattle.file_commands.specs.GivenBits.{is_digit, IsBitsText, IsCut}
+use Rattle.file_commands.specs.GivenBits.{is_bit_digit, IsBitsText, IsCutText}
 
 -- ---- digits before a rest that begins with none
 
-pub count_digits : (bits : Bits) (rest : List ℕ) → prefix_len is_digit rest ≡ 0 → length bits ≡ prefix_len is_digit (digits_of bits ++ rest)
+pub count_digits : (bits : Bits) (rest : List ℕ) → prefix_len is_bit_digit rest ≡ 0 → length bits ≡ prefix_len is_bit_digit (digits_of bits ++ rest)
 count_digits [] rest ends = sym ends
 count_digits (false ∷ bits) rest ends = let more = count_digits bits rest ends in omega (arith, more)
 count_digits (true ∷ bits) rest ends = let more = count_digits bits rest ends in omega (arith, more)
 
-no_digits : (bit : Bool) (bytes : List ℕ) → prefix_len is_digit (digit_of bit ∷ bytes) ≢ 0
+no_digits : (bit : Bool) (bytes : List ℕ) → prefix_len is_bit_digit (digit_of bit ∷ bytes) ≢ 0
 no_digits false bytes none = absurd (omega (arith, none))
 no_digits true bytes none = absurd (omega (arith, none))
 
@@ -32,13 +32,13 @@ no_letter false same = absurd (omega (arith, same))
 no_letter true same = absurd (omega (arith, same))
 
 -- the digits and the rest are told apart
-apart : (bits other : Bits) (rest tail : List ℕ) → prefix_len is_digit rest ≡ 0 → prefix_len is_digit tail ≡ 0
+apart : (bits other : Bits) (rest tail : List ℕ) → prefix_len is_bit_digit rest ≡ 0 → prefix_len is_bit_digit tail ≡ 0
     → digits_of bits ++ rest ≡ digits_of other ++ tail → (bits ≡ other) × (rest ≡ tail)
 apart [] [] rest tail none no_more same = (refl, same)
 apart [] (o ∷ other) rest tail none no_more same =
-    absurd (no_digits o (digits_of other ++ tail) (sym (ap (prefix_len is_digit) same) ∙ none))
+    absurd (no_digits o (digits_of other ++ tail) (sym (ap (prefix_len is_bit_digit) same) ∙ none))
 apart (b ∷ bits) [] rest tail none no_more same =
-    absurd (no_digits b (digits_of bits ++ rest) (ap (prefix_len is_digit) same ∙ no_more))
+    absurd (no_digits b (digits_of bits ++ rest) (ap (prefix_len is_bit_digit) same ∙ no_more))
 apart (b ∷ bits) (o ∷ other) rest tail none no_more same =
     let heads : digit_of b ≡ digit_of o = cc same in
     let behind : digits_of bits ++ rest ≡ digits_of other ++ tail = cc same in
@@ -73,7 +73,7 @@ not_none [] rest unended (inr same) =
 not_none (b ∷ bits) rest unended (inl same) = let heads : digit_of b ≡ 110 = cc same in no_letter b heads
 not_none (b ∷ bits) rest unended (inr same) = let heads : digit_of b ≡ 110 = cc same in no_letter b heads
 
-not_some : (bits : Bits) (rest : List ℕ) → prefix_len is_digit rest ≡ 0 → is_end bits rest ≡ false → (o : Bool) (other : Bits)
+not_some : (bits : Bits) (rest : List ℕ) → prefix_len is_bit_digit rest ≡ 0 → is_end bits rest ≡ false → (o : Bool) (other : Bits)
     → ¬ IsBitsText (digits_of bits ++ rest) (o ∷ other)
 not_some bits rest none unended o other (inl same) =
     let are = apart bits (o ∷ other) rest [] none refl (same ∙ sym (append-nil (digits_of (o ∷ other)))) in
@@ -84,12 +84,12 @@ not_some bits rest none unended o other (inr same) =
     let is : is_end (o ∷ other) (10 ∷ []) ≡ false = sym (λ i. is_end (are.0 i) (are.1 i)) ∙ unended in
     cc is
 
-not_bits : (bits : Bits) (rest : List ℕ) → prefix_len is_digit rest ≡ 0 → is_end bits rest ≡ false → (other : Bits)
+not_bits : (bits : Bits) (rest : List ℕ) → prefix_len is_bit_digit rest ≡ 0 → is_end bits rest ≡ false → (other : Bits)
     → ¬ IsBitsText (digits_of bits ++ rest) other
 not_bits bits rest none unended [] is = not_none bits rest unended is
 not_bits bits rest none unended (o ∷ other) is = not_some bits rest none unended o other is
 
-pub cut : (bits : Bits) (rest : List ℕ) → prefix_len is_digit rest ≡ 0 → is_end bits rest ≡ false → IsCut (digits_of bits ++ rest) (length bits)
+pub cut : (bits : Bits) (rest : List ℕ) → prefix_len is_bit_digit rest ≡ 0 → is_end bits rest ≡ false → IsCutText (digits_of bits ++ rest) (length bits)
 cut bits rest none unended = record {
   none = λ other is. not_bits bits rest none unended other is;
   count = count_digits bits rest none;

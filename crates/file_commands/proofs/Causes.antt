@@ -10,7 +10,7 @@ use Rattle.zk_port.specs.Counts.{Rose}
 use Rattle.zk_port.specs.Files.{Files, StandsAs, StandsLonger}
 use Rattle.bristol_reader.specs.Laws.{OneCircuit}
 use Rattle.bristol_reader.specs.Reads.{IsOnlyFault}
-use Rattle.dealer_files.specs.Faults.{IsDealtFile, IsFirstFault}
+use Rattle.dealer_files.specs.Faults.{IsDealtFile, IsFirstFileFault}
 use Rattle.dealer_files.specs.declared.fault.FileFault.{FileFault}
 use Rattle.dealer_files.specs.declared.fault.FileFault.TheVariants as file
 use Rattle.lease_journal.specs.declared.fault.StartFault.{StartFault}
@@ -47,9 +47,9 @@ file_of_load side name shelf other cause = cause
 
 -- nor one whose bytes are none
 pub file_of_bytes : (side : Side) (name : List ℕ) (shelf : ShelfChange) (text read : List ℕ) (fault : FileFault)
-    → IsLoaded shelf.old.told name text → read ≡ text → IsFirstFault side read fault → FileStop side name shelf (stop.BadFile fault)
+    → IsLoaded shelf.old.told name text → read ≡ text → IsFirstFileFault side read fault → FileStop side name shelf (stop.BadFile fault)
 file_of_bytes side name shelf text read fault loaded same first =
-    record { text = text; loaded = loaded; says = subst (λ (bytes : List ℕ). IsFirstFault side bytes fault) same first }
+    record { text = text; loaded = loaded; says = subst (λ (bytes : List ℕ). IsFirstFileFault side bytes fault) same first }
 
 -- ---- where a shelf tells, nothing else stands under a name than what is told
 
@@ -107,7 +107,7 @@ claim_lacks one name public outputs shelf tells ready calm (stop.WrongOutputs ne
 claim_lacks one name public outputs shelf tells ready calm other cause =
     circuit_lacks one name shelf ready.circuit tells ready.file calm other cause
 
-undecoded_7 : (side : Side) (bytes : List ℕ) (fault : FileFault) → IsDealtFile side bytes → IsFirstFault side bytes fault
+undecoded_7 : (side : Side) (bytes : List ℕ) (fault : FileFault) → IsDealtFile side bytes → IsFirstFileFault side bytes fault
     → stop_status (stop.BadFile fault) ≡ 7
 undecoded_7 side bytes file.BadMagic dealt first = absurd (first dealt.body.head.magic)
 undecoded_7 side bytes file.BadKind dealt first = absurd (first.2 dealt.body.head.of_side)
@@ -124,7 +124,7 @@ pub file_7 : (side : Side) (name : List ℕ) (shelf : ShelfChange) → shelf.old
     → ¬ NameFailed name shelf → (why : Refusal) → FileStop side name shelf why → stop_status why ≡ 7
 file_7 side name shelf tells dealt calm (stop.BadFile fault) cause =
     let same = told_text shelf.old.told name dealt.text cause.text tells dealt.loaded.stands cause.loaded.stands in
-    undecoded_7 side dealt.text fault dealt.says (subst (λ (b : List ℕ). IsFirstFault side b fault) same cause.says)
+    undecoded_7 side dealt.text fault dealt.says (subst (λ (b : List ℕ). IsFirstFileFault side b fault) same cause.says)
 file_7 side name shelf tells dealt calm other cause =
     ap stop_status (load_lacks name shelf dealt.text tells dealt.loaded calm other cause)
 

@@ -2,7 +2,7 @@
 use Rattle.std.proofs.Common.{◌≡◌, ◌⊎◌, ◌<◌, ℕ, zero, suc, List, [], length, Option, None, Some, refl, ap, ◌∙◌, subst, inl, inr, arith}
 use Rattle.std.specs.Option.{option_map}
 use Rattle.zk_model.specs.Files as model
-use Rattle.zk_model.specs.Dealing.{dealt_prover, dealt_verifier}
+use Rattle.dealer_files.specs.Dealing.{dealt_prover, dealt_verifier}
 use Rattle.zk_port.specs.Files.{Files}
 use Rattle.zk_port.specs.Files as port
 use Rattle.zk_port.specs.Shelves.{ShelfState}

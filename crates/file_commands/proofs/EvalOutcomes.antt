@@ -6,7 +6,7 @@ use Rattle.command_words.specs.BitWords.{Bits}
 use Rattle.command_words.specs.Words.{EvalAsk}
 use Rattle.file_commands.specs.EvalRuns.{Evaluates, EvalLines, EvalStop, GivesOutputs, WritesOutputs, outputs_line}
 use Rattle.file_commands.specs.Effects.{ShelfChange, Effects, OnlyLoads, IsName, HasFailed, IsDone, NameFailed}
-use Rattle.file_commands.specs.Stops.{CircuitStop, IsOfStop, IsReady, PrintsMade, StatusMeans, stop_status}
+use Rattle.file_commands.specs.Stops.{CircuitStop, IsOfStop, IsCircuitReady, PrintsMade, StatusMeans, stop_status}
 use Rattle.file_commands.specs.declared.refusal.Refusal.{Refusal}
 use Rattle.file_commands.specs.declared.refusal.Refusal.TheVariants as stop
 use Rattle.file_commands.proofs.Causes.{told_circuit, circuit_lacks}
@@ -40,14 +40,14 @@ statuses ask run (inr (inr (inl m))) = inr (inr (inl m.0))
 statuses ask run (inr (inr (inr (inl at)))) = inr (inr (inr at))
 statuses ask run (inr (inr (inr (inr m)))) = absurd (no_nine (EvalStop ask run.shelf) (λ need units cause. cause) m.1)
 
-lacks : OneCircuit → (ask : EvalAsk Bits) (shelf : ShelfChange) (circuit : Circuit) → IsReady shelf.old.told ask.circuit ask.bits circuit
+lacks : OneCircuit → (ask : EvalAsk Bits) (shelf : ShelfChange) (circuit : Circuit) → IsCircuitReady shelf.old.told ask.circuit ask.bits circuit
     → ¬ NameFailed ask.circuit shelf → (why : Refusal) → EvalStop ask shelf why → why ≡ stop.NoMemory
 lacks one ask shelf circuit ready calm (stop.WrongBits need got) cause =
     let same = told_circuit one shelf.old.told ask.circuit circuit cause.circuit ready.tells ready.file cause.file in
     absurd (cause.is.2 (cause.is.0 ∙ ap (λ c. c.inputs) same ∙ sym ready.inputs ∙ sym cause.is.1))
 lacks one ask shelf circuit ready calm other cause = circuit_lacks one ask.circuit shelf circuit ready.tells ready.file calm other cause
 
-done : OneCircuit → (ask : EvalAsk Bits) (run : Effects) (circuit : Circuit) → IsReady run.shelf.old.told ask.circuit ask.bits circuit
+done : OneCircuit → (ask : EvalAsk Bits) (run : Effects) (circuit : Circuit) → IsCircuitReady run.shelf.old.told ask.circuit ask.bits circuit
     → ¬ HasFailed (IsName ask.circuit) run → Means ask run → IsDone run.status
 done one ask run circuit ready calm means = of_means means
   where

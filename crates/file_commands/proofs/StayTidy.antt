@@ -3,15 +3,15 @@ use Rattle.std.proofs.Common.{ℕ, List, ⊎_elim}
 use Rattle.zk_model.specs.declared.JournalKind.{JournalKind}
 use Rattle.zk_model.specs.declared.JournalKind.TheVariants.{Claims, Ceilings}
 use Rattle.zk_model.specs.declared.Span.{Span}
-use Rattle.zk_model.specs.Migrations.{SaysEither, one_area_end}
-use Rattle.zk_model.specs.Twins.{blank_twin_bytes, twin_ceiling_slots}
+use Rattle.journal_migration.specs.Migrations.{SaysEither, one_area_end}
+use Rattle.lease_journal.specs.Twins.{blank_twin_bytes, twin_ceiling_slots}
 use Rattle.twin_journal.specs.Starts.{AreTidy}
 use Rattle.twin_journal.proofs.NewTwins.{blank_twin_is_new}
 use Rattle.twin_journal.proofs.TidyFiles.{one_area_is_tidy, said_is_tidy}
-use Rattle.file_commands.specs.ClaimedUnits.{FindsClaims, Place}
+use Rattle.file_commands.specs.ClaimedUnits.{FindsClaims, JournalPlace}
 use Rattle.file_commands.specs.Laws.{JournalsStayTidy}
 
-of_claims : (id : List ℕ) (total : ℕ) (place : Place) (claims : List Span) (bytes : List ℕ) → FindsClaims id total place claims bytes → AreTidy bytes
+of_claims : (id : List ℕ) (total : ℕ) (place : JournalPlace) (claims : List Span) (bytes : List ℕ) → FindsClaims id total place claims bytes → AreTidy bytes
 of_claims id total place claims bytes found =
     said_is_tidy Claims id total place.begin place.slots found.says.generation found.says.bodies bytes found.holds found.says.says
 

@@ -7,7 +7,7 @@ use Rattle.zk_port.specs.Counts.{Rose, CountsNames}
 use Rattle.zk_port.specs.Files.{Files, stored}
 use Rattle.zk_port.specs.Files as port
 use Rattle.zk_port.specs.Shelves.{ShelfState}
-use Rattle.file_commands.specs.Effects.{CountsStay, NameFailed, OthersStay, OnlyStores}
+use Rattle.file_commands.specs.Effects.{CountsStay, NameFailed, OtherNamesStay, OnlyStores}
 use Rattle.file_commands.specs.DealRuns.{StopsStoring, IsDealName, all_stored, next_name, ending, content}
 use Rattle.file_commands.specs.declared.deal_command.Stored.{Stored}
 use Rattle.file_commands.specs.declared.refusal.Refusal.{Refusal}
@@ -98,7 +98,7 @@ stored_all (Ok value) one two three four a b c d e first second third last =
 
 -- ---- what is touched
 
-others_stay : (IsNamed : List ℕ → Type 0) (a b c : Option Files) → OthersStay IsNamed a b → OthersStay IsNamed b c → OthersStay IsNamed a c
+others_stay : (IsNamed : List ℕ → Type 0) (a b c : Option Files) → OtherNamesStay IsNamed a b → OtherNamesStay IsNamed b c → OtherNamesStay IsNamed a c
 others_stay IsNamed None None c one two = two
 others_stay IsNamed None (Some files) c one two = cc
 others_stay IsNamed (Some files) None c one two = absurd one
@@ -119,7 +119,7 @@ stores_nothing IsNamed a = record {
   asked = asks_nothing IsNamed a;
 }
   where
-    same : (told : Option Files) → OthersStay IsNamed told told
+    same : (told : Option Files) → OtherNamesStay IsNamed told told
     same None = refl
     same (Some files) = λ other not. refl
 
@@ -134,7 +134,7 @@ refused_of IsNamed whole failed a b is others counts quiet = record {
   asked = asks_one IsNamed whole failed a b is counts quiet;
 }
   where
-    but_named : (old new : Option Files) → port.OthersStay whole old new → OthersStay IsNamed old new
+    but_named : (old new : Option Files) → port.OthersStay whole old new → OtherNamesStay IsNamed old new
     but_named None new stays = stays
     but_named (Some files) None stays = absurd stays
     but_named (Some files) (Some more) stays = λ other not. stays other (λ e. not (subst IsNamed (sym e) is))

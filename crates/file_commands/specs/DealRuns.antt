@@ -3,11 +3,11 @@ use Rattle.std.specs.Prelude.{◌≡◌, ◌⊎◌, ◌<◌, ℕ, List, [], ◌�
 use Rattle.std.specs.Option.{option_map}
 use Rattle.std.specs.Fmt.{decimal}
 use Rattle.hex.specs.Hex.{encode_lower}
-use Rattle.zk_model.specs.Dealing.{dealt_prover, dealt_verifier}
+use Rattle.dealer_files.specs.Dealing.{dealt_prover, dealt_verifier}
 use Rattle.zk_model.specs.FileBytes.{prover_file_bytes, verifier_file_bytes}
 use Rattle.zk_model.specs.Files as model
-use Rattle.zk_model.specs.Journals.{claim_slots}
-use Rattle.zk_model.specs.Twins.{blank_twin_bytes, twin_ceiling_slots}
+use Rattle.lease_journal.specs.Journals.{claim_slots}
+use Rattle.lease_journal.specs.Twins.{blank_twin_bytes, twin_ceiling_slots}
 use Rattle.zk_model.specs.declared.JournalKind.TheVariants.{Claims, Ceilings}
 use Rattle.zk_model.specs.declared.Kind.{Kind}
 use Rattle.zk_model.specs.declared.Kind.TheVariants.{Direct, Extended}

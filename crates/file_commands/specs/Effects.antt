@@ -50,14 +50,14 @@ pub record OnlyLoads (IsNamed : List ℕ → Type 0) (shelf : ShelfChange) : Typ
   pub asked : OnlyAsks IsNamed shelf
 
 -- all names but these have what they had
-abbrev pub OthersStay : (List ℕ → Type 0) → Option Files → Option Files → Type 0
-OthersStay IsNamed None new = new ≡ None
-OthersStay IsNamed (Some old) new =
+abbrev pub OtherNamesStay : (List ℕ → Type 0) → Option Files → Option Files → Type 0
+OtherNamesStay IsNamed None new = new ≡ None
+OtherNamesStay IsNamed (Some old) new =
     IsSomeAnd new (λ files. (other : List ℕ) → ¬ IsNamed other → files other ≡ old other)
 
 -- only these are asked for, and no other file is changed
 pub record OnlyStores (IsNamed : List ℕ → Type 0) (shelf : ShelfChange) : Type 0 where
-  pub others : OthersStay IsNamed shelf.old.told shelf.new.told
+  pub others : OtherNamesStay IsNamed shelf.old.told shelf.new.told
   pub asked : OnlyAsks IsNamed shelf
 
 -- the status that it answers, and what becomes of the shelf and the sink

@@ -7,7 +7,7 @@ use Rattle.command_words.specs.BitWords.{Bits}
 use Rattle.command_words.specs.BitWords.{bits_word}
 use Rattle.command_words.specs.Words.{EvalAsk}
 use Rattle.file_commands.specs.Effects.{ShelfChange, Effects, OnlyLoads, IsName, HasFailed, IsDone}
-use Rattle.file_commands.specs.Stops.{PrintsMade, WritesAll, SaysStop, StatusMeans, HasCircuit, IsReady, CircuitStop}
+use Rattle.file_commands.specs.Stops.{PrintsMade, WritesAll, SaysStop, StatusMeans, HasCircuit, IsCircuitReady, CircuitStop}
 use Rattle.file_commands.specs.declared.refusal.Refusal.{Refusal}
 use Rattle.file_commands.specs.declared.refusal.Refusal.TheVariants.{WrongBits}
 
@@ -48,5 +48,5 @@ pub record Evaluates (ask : EvalAsk Bits) (run : Effects) : Type 0 where
   pub kept : OnlyLoads (IsName ask.circuit) run.shelf
   pub statuses : (run.status ≡ 0) ⊎ (run.status ≡ 3) ⊎ (run.status ≡ 4) ⊎ (run.status ≡ 7)
   pub means : StatusMeans (WritesOutputs ask run) (EvalStop ask run.shelf) (IsName ask.circuit) run
-  pub done : (circuit : Circuit) → IsReady run.shelf.old.told ask.circuit ask.bits circuit
+  pub done : (circuit : Circuit) → IsCircuitReady run.shelf.old.told ask.circuit ask.bits circuit
       → ¬ HasFailed (IsName ask.circuit) run → IsDone run.status

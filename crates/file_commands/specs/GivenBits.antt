@@ -4,7 +4,8 @@ use Rattle.std.specs.List.{prefix_len}
 use Rattle.zk_model.specs.Circuit.{Circuit}
 use Rattle.zk_port.specs.Files.{Files}
 use Rattle.command_words.specs.BitWords.{Bits, BitsAsk, said, named, bits_word}
-use Rattle.command_words.specs.Words.{Ask, rehearse, rehearse_ask, generate, eval, eval_ask, deal, serve, serve_ask, serve_many, prove, prove_ask, audit, audit_ask, migrate, status}
+use Rattle.command_words.specs.Words.{Ask, rehearse_ask, eval_ask, serve_ask, prove_ask, audit_ask}
+use Rattle.command_words.specs.declared.asks.Ask.TheVariants.{Rehearse as rehearse, Generate as generate, Eval as eval, Deal as deal, Serve as serve, ServeMany as serve_many, Prove as prove, Audit as audit, Migrate as migrate, Status as status}
 use Rattle.file_commands.specs.Effects.{ShelfChange}
 use Rattle.file_commands.specs.Stops.{HasText, HasCircuit, LoadStop, CircuitStop}
 use Rattle.file_commands.specs.declared.refusal.Refusal.{Refusal}
@@ -13,17 +14,17 @@ use Rattle.file_commands.specs.declared.refusal.Refusal.TheVariants as stop
 -- ---- a file of bits
 
 -- the digit 0 or 1
-abbrev pub is_digit : ℕ → Bool
-is_digit byte = byte == 48 || byte == 49
+abbrev pub is_bit_digit : ℕ → Bool
+is_bit_digit byte = byte == 48 || byte == 49
 
 -- the text is the word of these bits, behind which a line feed may stand
 abbrev pub IsBitsText : List ℕ → Bits → Type 0
 IsBitsText text bits = (text ≡ bits_word bits) ⊎ (text ≡ bits_word bits ++ 10 ∷ [])
 
 -- no bits have this text, in which so many digits stand before the first other byte
-pub record IsCut (text : List ℕ) (got : ℕ) : Type 0 where
+pub record IsCutText (text : List ℕ) (got : ℕ) : Type 0 where
   pub none : (bits : Bits) → ¬ IsBitsText text bits
-  pub count : got ≡ prefix_len is_digit text
+  pub count : got ≡ prefix_len is_bit_digit text
 
 -- ---- what is given
 
@@ -33,27 +34,27 @@ AreGiven told (said bits) given = given ≡ bits
 AreGiven told (named name) given = HasText told name (λ text. IsBitsText text given)
 
 -- the same is asked for, with the bits that its words give
-abbrev pub IsGiven : Option Files → Ask BitsAsk → Ask Bits → Type 0
-IsGiven told (rehearse ask) given =
+abbrev pub IsAskGiven : Option Files → Ask BitsAsk → Ask Bits → Type 0
+IsAskGiven told (rehearse ask) given =
     (public : Bits) × (bits : Bits) × AreGiven told ask.public public × AreGiven told ask.bits bits
     × (given ≡ rehearse (rehearse_ask ask.circuit public bits ask.kind ask.section))
-IsGiven told (generate ask) given = given ≡ generate ask
-IsGiven told (eval ask) given =
+IsAskGiven told (generate ask) given = given ≡ generate ask
+IsAskGiven told (eval ask) given =
     (bits : Bits) × AreGiven told ask.bits bits × (given ≡ eval (eval_ask ask.circuit bits))
-IsGiven told (deal ask) given = given ≡ deal ask
-IsGiven told (serve ask) given =
+IsAskGiven told (deal ask) given = given ≡ deal ask
+IsAskGiven told (serve ask) given =
     (public : Bits) × (outputs : Bits) × AreGiven told ask.public public × AreGiven told ask.outputs outputs
     × (given ≡ serve (serve_ask ask.address ask.file ask.circuit public outputs ask.options))
-IsGiven told (serve_many ask) given = given ≡ serve_many ask
-IsGiven told (prove ask) given =
+IsAskGiven told (serve_many ask) given = given ≡ serve_many ask
+IsAskGiven told (prove ask) given =
     (public : Bits) × (bits : Bits) × (outputs : Bits)
     × AreGiven told ask.public public × AreGiven told ask.bits bits × AreGiven told ask.outputs outputs
     × (given ≡ prove (prove_ask ask.address ask.file ask.circuit public bits outputs ask.timeout))
-IsGiven told (audit ask) given =
+IsAskGiven told (audit ask) given =
     (public : Bits) × (outputs : Bits) × AreGiven told ask.public public × AreGiven told ask.outputs outputs
     × (given ≡ audit (audit_ask ask.circuit public outputs ask.prover ask.verifier ask.log))
-IsGiven told (migrate ask) given = given ≡ migrate ask
-IsGiven told (status ask) given = given ≡ status ask
+IsAskGiven told (migrate ask) given = given ≡ migrate ask
+IsAskGiven told (status ask) given = given ≡ status ask
 
 -- ---- why words give no bits
 
@@ -80,7 +81,7 @@ CutStop circuit of got shelf stop =
 abbrev pub BitsFileStop : List ℕ → BitsOf → List ℕ → ShelfChange → Refusal → Type 0
 BitsFileStop circuit of name shelf stop =
     LoadStop name shelf stop
-    ⊎ ((got : ℕ) × HasText shelf.old.told name (λ text. IsCut text got) × CutStop circuit of got shelf stop)
+    ⊎ ((got : ℕ) × HasText shelf.old.told name (λ text. IsCutText text got) × CutStop circuit of got shelf stop)
 
 -- why a word gives none
 abbrev pub WordStop : List ℕ → BitsOf → BitsAsk → ShelfChange → Refusal → Type 0

@@ -1,7 +1,7 @@
 -- What becomes of a journal over a run that opens it.
 use Rattle.std.specs.Prelude.{◌≡◌, ◌≢◌, ◌⊎◌, ◌+◌, ◌≤◌, ◌++◌, ◌∷◌, [], ℕ, List, codes, Option, Some, IfSome, IsSomeAnd}
-use Rattle.zk_model.specs.Migrations.{moved_slots, one_area_end}
-use Rattle.zk_model.specs.Twins.{HoldsTwin, twin_length}
+use Rattle.journal_migration.specs.Migrations.{moved_slots, one_area_end}
+use Rattle.lease_journal.specs.Twins.{HoldsTwin, twin_length}
 use Rattle.zk_model.specs.declared.JournalKind.{JournalKind}
 use Rattle.zk_model.specs.declared.JournalKind.TheVariants.{Claims}
 use Rattle.zk_model.specs.declared.Span.{Span}

@@ -19,7 +19,7 @@ use Rattle.zk_port.specs.Logs.{appended, AppendsPart}
 use Rattle.zk_port.specs.declared.fault.PortFault.{PortFault}
 use Rattle.zk_port.specs.declared.fault.PortFault.TheVariants as port
 use Rattle.bristol_reader.specs.Reads.{IsOnlyFault}
-use Rattle.dealer_files.specs.Faults.{IsFirstFault}
+use Rattle.dealer_files.specs.Faults.{IsFirstFileFault}
 use Rattle.dealer_files.specs.declared.fault.FileFault.{FileFault}
 use Rattle.dealer_files.specs.declared.fault.FileFault.TheVariants as file
 use Rattle.file_commands.specs.Effects.{DoorChange, ShelfChange, SinkChange, NameFailed, SinkFailed, Effects, HasFailed}
@@ -202,7 +202,7 @@ IsVerifierFileAt told name file = HasText told name (λ bytes. (verifier_file_by
 
 -- why there is no dealt file of this side under the name: its bytes are none, and this is the first fault; or it can't be loaded
 abbrev pub FileStop : Side → List ℕ → ShelfChange → Refusal → Type 0
-FileStop side name shelf (stop.BadFile fault) = HasText shelf.old.told name (λ bytes. IsFirstFault side bytes fault)
+FileStop side name shelf (stop.BadFile fault) = HasText shelf.old.told name (λ bytes. IsFirstFileFault side bytes fault)
 FileStop side name shelf other = LoadStop name shelf other
 
 -- there are more public bits than the circuit has inputs
@@ -230,7 +230,7 @@ OutputsStop circuit outputs (stop.WrongOutputs need got) = (need ≡ circuit.out
 OutputsStop circuit outputs other = ⊥
 
 -- a shelf that tells has this circuit under the name, and the bits fit it
-pub record IsReady (told : Option Files) (name : List ℕ) (bits : List Bool) (circuit : Circuit) : Type 0 where
+pub record IsCircuitReady (told : Option Files) (name : List ℕ) (bits : List Bool) (circuit : Circuit) : Type 0 where
   pub tells : told ≢ None
   pub file : IsCircuitFile told name circuit
   pub inputs : length bits ≡ circuit.inputs

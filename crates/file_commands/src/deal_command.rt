@@ -1,7 +1,7 @@
 // `deal NAME --units N [--trees T --height H --base K]`
 ghost use Rattle.std.specs.Prelude.{◌≡◌, ◌⊎◌, ◌≤◌, ◌^◌, ◌++◌, IfOk, IfErr, OnOk, OnErr, string_bytes};
 ghost use Rattle.std.specs.Option.{option_map};
-ghost use Rattle.zk_model.specs.Dealing.{dealt_prover};
+ghost use Rattle.dealer_files.specs.Dealing.{dealt_prover};
 ghost use Rattle.zk_model.specs.Files.{AreParams};
 ghost use Rattle.zk_port.specs.Changes.{change};
 ghost use Rattle.zk_port.specs.Files.{OthersStay, stored};

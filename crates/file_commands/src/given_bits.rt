@@ -7,12 +7,12 @@ ghost use Rattle.command_words.specs.Commands.{IsWithinLimits, ask_of, bits_ask}
 ghost use Rattle.command_words.specs.BitWords.{named};
 ghost use Rattle.file_commands.specs.BitsTexts.{SaysBits, wanted_bits, is_end};
 ghost use Rattle.file_commands.specs.Effects.{OnlyLoads, IsName};
-ghost use Rattle.file_commands.specs.GivenBits.{AreGiven, BitsFileStop, ClaimedStop, CutStop, GivenStop, InputsStop, IsGiven, IsGivenName, IsWordName, IsWordsName, WordStop, cut_refusal, is_digit};
+ghost use Rattle.file_commands.specs.GivenBits.{AreGiven, BitsFileStop, ClaimedStop, CutStop, GivenStop, InputsStop, IsAskGiven, IsGivenName, IsWordName, IsWordsName, WordStop, cut_refusal, is_bit_digit};
 
 use crate::circuit_file::{load_circuit, load_file};
 use crate::refusal::Refusal;
 use bristol_reader::Circuit;
-use command_words::{BitsWord, Command};
+use command_words::{Ask, AuditAsk, BitsWord, Command, EvalAsk, ProveAsk, RehearseAsk, ServeAsk};
 use std::alloc::{AllocError, Global};
 use zk_port::Shelf;
 
@@ -49,7 +49,7 @@ fn is_end(bits: &[bool], rest: &[u8]) -> bool
 
 /// What a text says in which the digits of these bits stand before this rest.
 fn bits_before(bits: Vec<bool>, rest: &[u8]) -> BitsText
-    requires { prefix_len is_digit rest.now ≡ 0 }
+    requires { prefix_len is_bit_digit rest.now ≡ 0 }
     ensures { SaysBits (digits_of bits.items ++ rest.now) result }
 {
     if is_end(&bits, rest) {
@@ -220,7 +220,7 @@ pub fn read_given<F: Shelf>(
     command: Command<BitsWord>,
 ) -> Result<Command<Vec<bool>>, Refusal>
     requires limits { IsWithinLimits command }
-    ensures given { IfOk result (λ known. IsGiven (F.state shelf.old).told
+    ensures given { IfOk result (λ known. IsAskGiven (F.state shelf.old).told
         (ask_of bits_ask command) (ask_of (λ v. v.items) known)) }
     ensures limits { IfOk result (λ known. IsWithinLimits known) }
     ensures quiet { OnOk result (F.state shelf.new ≡ F.state shelf.old) }
@@ -230,79 +230,53 @@ pub fn read_given<F: Shelf>(
         (change (F.state shelf.old) (F.state shelf.new)) }
 {
     match command {
-        Command::Rehearse {
-            circuit,
-            public,
-            bits,
-            kind,
-            section,
-        } => {
-            let (public, bits) = input_bits(alloc, shelf, &circuit, public, bits)?;
-            Ok(Command::Rehearse {
+        Ask::Rehearse(
+            RehearseAsk {
                 circuit,
                 public,
                 bits,
                 kind,
                 section,
-            })
+            },
+        ) => {
+            let (public, bits) = input_bits(alloc, shelf, &circuit, public, bits)?;
+            Ok(Ask::Rehearse(RehearseAsk {
+                circuit,
+                public,
+                bits,
+                kind,
+                section,
+            }))
         }
-        Command::RehearseGenerated {
-            gates,
-            number,
-            kind,
-            section,
-        } => Ok(Command::RehearseGenerated {
-            gates,
-            number,
-            kind,
-            section,
-        }),
-        Command::Eval { circuit, bits } => {
+        Ask::Generate(ask) => Ok(Ask::Generate(ask)),
+        Ask::Eval(EvalAsk { circuit, bits }) => {
             let bits = word_bits(alloc, shelf, &circuit, WantedBits::Private(&[]), bits)?;
-            Ok(Command::Eval { circuit, bits })
+            Ok(Ask::Eval(EvalAsk { circuit, bits }))
         }
-        Command::Deal { name, params } => Ok(Command::Deal { name, params }),
-        Command::Serve {
-            address,
-            file,
-            circuit,
-            public,
-            outputs,
-            options,
-        } => {
-            let (public, outputs) = claimed_bits(alloc, shelf, &circuit, public, outputs)?;
-            Ok(Command::Serve {
+        Ask::Deal(ask) => Ok(Ask::Deal(ask)),
+        Ask::Serve(
+            ServeAsk {
                 address,
                 file,
                 circuit,
                 public,
                 outputs,
                 options,
-            })
+            },
+        ) => {
+            let (public, outputs) = claimed_bits(alloc, shelf, &circuit, public, outputs)?;
+            Ok(Ask::Serve(ServeAsk {
+                address,
+                file,
+                circuit,
+                public,
+                outputs,
+                options,
+            }))
         }
-        Command::ServeMany {
-            address,
-            file,
-            statements,
-            options,
-        } => Ok(Command::ServeMany {
-            address,
-            file,
-            statements,
-            options,
-        }),
-        Command::Prove {
-            address,
-            file,
-            circuit,
-            public,
-            bits,
-            outputs,
-            timeout,
-        } => {
-            let (public, bits) = input_bits(alloc, shelf, &circuit, public, bits)?;
-            let outputs = word_bits(alloc, shelf, &circuit, WantedBits::Outputs, outputs)?;
-            Ok(Command::Prove {
+        Ask::ServeMany(ask) => Ok(Ask::ServeMany(ask)),
+        Ask::Prove(
+            ProveAsk {
                 address,
                 file,
                 circuit,
@@ -310,27 +284,41 @@ pub fn read_given<F: Shelf>(
                 bits,
                 outputs,
                 timeout,
-            })
+            },
+        ) => {
+            let (public, bits) = input_bits(alloc, shelf, &circuit, public, bits)?;
+            let outputs = word_bits(alloc, shelf, &circuit, WantedBits::Outputs, outputs)?;
+            Ok(Ask::Prove(ProveAsk {
+                address,
+                file,
+                circuit,
+                public,
+                bits,
+                outputs,
+                timeout,
+            }))
         }
-        Command::Audit {
-            circuit,
-            public,
-            outputs,
-            prover,
-            verifier,
-            log,
-        } => {
-            let (public, outputs) = claimed_bits(alloc, shelf, &circuit, public, outputs)?;
-            Ok(Command::Audit {
+        Ask::Audit(
+            AuditAsk {
                 circuit,
                 public,
                 outputs,
                 prover,
                 verifier,
                 log,
-            })
+            },
+        ) => {
+            let (public, outputs) = claimed_bits(alloc, shelf, &circuit, public, outputs)?;
+            Ok(Ask::Audit(AuditAsk {
+                circuit,
+                public,
+                outputs,
+                prover,
+                verifier,
+                log,
+            }))
         }
-        Command::Migrate { side, file } => Ok(Command::Migrate { side, file }),
-        Command::Status { file, circuit } => Ok(Command::Status { file, circuit }),
+        Ask::Migrate(ask) => Ok(Ask::Migrate(ask)),
+        Ask::Status(ask) => Ok(Ask::Status(ask)),
     }
 }

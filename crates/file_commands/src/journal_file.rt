@@ -1,7 +1,7 @@
 // The journal of a dealt file.
 ghost use Rattle.std.specs.Prelude.{◌≡◌, ◌⊎◌, ◌-◌, ◌^◌, ◌<◌, ◌≤◌, ℕ, List, All, IfOk, IfErr, OnOk, OnErr, length, string_bytes};
-ghost use Rattle.zk_model.specs.ClaimedRanges.{RiseFrom};
-ghost use Rattle.zk_model.specs.Twins.{HoldsTwin};
+ghost use Rattle.claim_store.specs.ClaimedRanges.{RiseFrom};
+ghost use Rattle.lease_journal.specs.Twins.{HoldsTwin};
 ghost use Rattle.zk_model.specs.declared.JournalKind.TheVariants.{Claims};
 ghost use Rattle.zk_model.specs.declared.limits.TheConstants.{MAX_PASSES};
 ghost use Rattle.lease_store.specs.Ceilings.{HasCeilingHeader, SaysCeiling};

@@ -4,9 +4,8 @@ use Rattle.std.specs.Result.{IsErrAnd}
 use Rattle.std.proofs.lemmas.List.{take_all, map-append, take-map, take-append-le, take-append-drop}
 use Rattle.std.proofs.lemmas.Option.{none-some, same_Some}
 use Rattle.zk_model.specs.Frames.{CanGoOn, IsFirstBad, IsWhole, frame_length, bytes_wanted, Frame, frame_spelling, Allows}
-use Rattle.proof_frames.proofs.Begun.{held_goes_on}
+use Rattle.proof_frames.proofs.Begun.{begins_can, nothing_begins}
 use Rattle.proof_frames.proofs.Lengths.{told_within, whole_length}
-use Rattle.proof_frames.proofs.Steps.{nothing_held}
 use Rattle.proof_frames.specs.Readings.{Reading, IsIdle, wanted, Refuses, Takes}
 use Rattle.proof_frames.specs.declared.decoder.BadFrame.{BadFrame}
 use Rattle.frame_link.specs.declared.fault.LineFault.{LineFault}
@@ -285,9 +284,9 @@ pub none_fails : (place : Expect) (old new : LineState) → Came [] old new → 
 none_fails place old new came receives faults = record {
   bytes = [];
   part = record {
-    few = begun_within place [] (held_goes_on place [] [] [] (nothing_held place)) (omega arith);
+    few = begun_within place [] (begins_can place [] (nothing_begins place)) (omega arith);
     unfinished = inl (omega (arith, told_within place []));
-    cut = λ _. record { goes_on = held_goes_on place [] [] [] (nothing_held place); short = omega (arith, told_within place []) };
+    cut = λ _. record { goes_on = begins_can place [] (nothing_begins place); short = omega (arith, told_within place []) };
   };
   came = came;
   broken = tt;

@@ -6,7 +6,7 @@ use borrow.Rule.Slice.PartMut.{put_mid}
 use Rattle.zk_model.specs.Bytes.{LeftRight, xor_bytes}
 use Rattle.zk_model.specs.Extension.{choice_of}
 use Rattle.ggm_tree.specs.Rows.{leaves_below, level_in, AreAdded}
-use Rattle.ggm_tree.specs.Found.{sibling_of, sibling_node, IsFilled}
+use Rattle.ggm_tree.specs.Found.{sibling_of, sibling_node, AreLeavesFilled}
 
 -- the block that a bit names
 pub choice_is : (bit : Bool) (both : LeftRight) → choice_of bit both ≡ (if bit then both.right else both.left)
@@ -51,10 +51,10 @@ pub filled_is : (level height place digit count start k : ℕ) (sum node : List 
     → digit ≡ from_bool (nat_eq (place % 2) 0) → count ≡ 2 ^ height → start ≡ (place / 2 * 2 + digit) * count → k ≡ start + count - start
     → sibling_of place * 2 ^ height + 2 ^ height ≤ length leaves
     → length written ≡ length (take k (drop start leaves)) → AreAdded (node ∷ []) height below new → written ≡ leaves_below (node ∷ []) height
-    → IsFilled level height place sum held (above ++ new) leaves (put_mid start k leaves written)
+    → AreLeavesFilled level height place sum held (above ++ new) leaves (put_mid start k leaves written)
 filled_is level height place digit count start k sum node held above below new none leaves written split front is side wide at most room long added are =
-    subst (λ (n : ℕ). IsFilled level height place sum held (above ++ new) leaves (put_mid n k leaves written)) (sym there)
-    (subst (λ (n : ℕ). IsFilled level height place sum held (above ++ new) leaves (put_mid (sibling_of place * 2 ^ height) n leaves written))
+    subst (λ (n : ℕ). AreLeavesFilled level height place sum held (above ++ new) leaves (put_mid n k leaves written)) (sym there)
+    (subst (λ (n : ℕ). AreLeavesFilled level height place sum held (above ++ new) leaves (put_mid (sibling_of place * 2 ^ height) n leaves written))
     (sym few) (record {
       added = subst (λ (list : List LeftRight). AreAdded (here ∷ []) height list (drop (level + 1) (above ++ new)))
           (sym (drop_at above below (level + 1) front) ∙ ap (drop (level + 1)) (sym split))

@@ -14,7 +14,7 @@ use Rattle.zk_model.specs.Bits.{from_bit}
 use Rattle.zk_model.specs.Bytes.{LeftRight, AreBytes, xor_bytes, xor_all}
 use Rattle.zk_model.specs.Tree.{child_of, leaf_value, ancestor, side_away, IsPunctured}
 use Rattle.ggm_tree.specs.Rows.{children_of, nodes_below, sums_with, level_in, nothing}
-use Rattle.ggm_tree.specs.Found.{sibling_of, sibling_node, IsFilled}
+use Rattle.ggm_tree.specs.Found.{sibling_of, sibling_node, AreLeavesFilled}
 use Rattle.ggm_tree.proofs.Ranges.{xor_range, outside, AreLong, outside_long, outside_back, outside_front, found_apart, from_sum}
 use Rattle.ggm_tree.proofs.Trees.{children_range, below_last, no_sums}
 
@@ -236,7 +236,7 @@ side_with true sums row = refl
 
 -- what is held then
 held_more : (h alpha level : ℕ) (sums : List (List ℕ)) (held after : List LeftRight) (leaves filled : List ℕ) → alpha < 2 ^ h → level < h
-    → IsFilled level (h - (level + 1)) (place_at h alpha level) (get_or sums level []) held after leaves filled
+    → AreLeavesFilled level (h - (level + 1)) (place_at h alpha level) (get_or sums level []) held after leaves filled
     → IsFound h alpha level sums held leaves → (found : List ℕ) (tree : IsPunctured h alpha sums found) (m : ℕ) (side : Bool) → level + 1 + m < h
     → side_in (level_in after (level + 1 + m)) side
     ≡ outside (side_node tree.node (level + 1 + m) side) (place_at h alpha level * 2 ^ m) (2 ^ m) (2 ^ (level + 1 + m))
@@ -298,7 +298,7 @@ held_more h alpha level sums held after leaves filled inside lower done so_far f
 
 -- the leaves that are found then
 leaf_more : (h alpha level : ℕ) (sums : List (List ℕ)) (held after : List LeftRight) (leaves filled : List ℕ) → alpha < 2 ^ h → level < h
-    → IsFilled level (h - (level + 1)) (place_at h alpha level) (get_or sums level []) held after leaves filled
+    → AreLeavesFilled level (h - (level + 1)) (place_at h alpha level) (get_or sums level []) held after leaves filled
     → IsFound h alpha level sums held leaves → (found : List ℕ) (tree : IsPunctured h alpha sums found) (j : ℕ) → j < 2 ^ h
     → j / 2 ^ (h - (level + 1)) ≢ place_at h alpha level → get_or filled j 0 ≡ leaf_value (tree.node h j)
 leaf_more h alpha level sums held after leaves filled inside lower done so_far found tree j below away =
@@ -339,7 +339,7 @@ leaf_more h alpha level sums held after leaves filled inside lower done so_far f
 -- all of it
 pub found_more : (h alpha level below place : ℕ) (sums : List (List ℕ)) (held after : List LeftRight) (leaves filled : List ℕ) → alpha < 2 ^ h
     → level < h → below ≡ h - 1 - level → place ≡ alpha / 2 ^ (h - 1 - level) → length after ≡ length held → length filled ≡ length leaves
-    → AreBytes 16 (get_or sums level []) → IsFilled level below place (get_or sums level []) held after leaves filled
+    → AreBytes 16 (get_or sums level []) → AreLeavesFilled level below place (get_or sums level []) held after leaves filled
     → IsFound h alpha level sums held leaves → IsFound h alpha (level + 1) sums after filled
 found_more h alpha level below place sums held after leaves filled inside lower under at held_same same octets done so_far = record {
   long = same ∙ so_far.long;
@@ -355,9 +355,9 @@ found_more h alpha level below place sums held after leaves filled inside lower 
     less : h - 1 - level ≡ h - (level + 1)
     less = omega arith
 
-    here : IsFilled level (h - (level + 1)) (place_at h alpha level) (get_or sums level []) held after leaves filled
-    here = subst (λ (n : ℕ). IsFilled level n (place_at h alpha level) (get_or sums level []) held after leaves filled) (under ∙ less)
-        (subst (λ (p : ℕ). IsFilled level below p (get_or sums level []) held after leaves filled) (at ∙ ap (λ n. alpha / 2 ^ n) less) done)
+    here : AreLeavesFilled level (h - (level + 1)) (place_at h alpha level) (get_or sums level []) held after leaves filled
+    here = subst (λ (n : ℕ). AreLeavesFilled level n (place_at h alpha level) (get_or sums level []) held after leaves filled) (under ∙ less)
+        (subst (λ (p : ℕ). AreLeavesFilled level below p (get_or sums level []) held after leaves filled) (at ∙ ap (λ n. alpha / 2 ^ n) less) done)
 
     by_last : (k : ℕ) → k < level + 1 → (k ≡ level) ⊎ (k ≢ level) → AreBytes 16 (get_or sums k [])
     by_last k under (inl it) = subst (λ (i : ℕ). AreBytes 16 (get_or sums i [])) (sym it) octets

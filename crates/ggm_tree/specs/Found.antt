@@ -13,7 +13,7 @@ sibling_node place sum held = xor_bytes (if nat_eq (place % 2) 0 then held.right
 
 -- The leaves below the sibling of the node at a place are written, where it stands so high above them, and what is held
 -- of the levels below it has its children.
-pub record IsFilled (level height place : ℕ) (sum : List ℕ) (held after : List LeftRight)
+pub record AreLeavesFilled (level height place : ℕ) (sum : List ℕ) (held after : List LeftRight)
     (leaves filled : List ℕ) : Type 0 where
   pub added : AreAdded (sibling_node place sum (level_in held level) ∷ []) height
       (drop (level + 1) held) (drop (level + 1) after)

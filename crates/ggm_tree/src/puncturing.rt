@@ -2,7 +2,7 @@
 ghost use Rattle.std.specs.Prelude.{◌≡◌, ◌+◌, ◌*◌, ◌^◌, ◌<◌, ◌≤◌, length, IfOk, vec_len};
 ghost use Rattle.zk_model.specs.Bytes.{AreBytes};
 ghost use Rattle.zk_model.specs.Tree.{IsPunctured};
-ghost use Rattle.ggm_tree.specs.Found.{IsFilled, sibling_of};
+ghost use Rattle.ggm_tree.specs.Found.{AreLeavesFilled, sibling_of};
 ghost use Rattle.zk_model.specs.declared.limits.TheConstants.{MAX_HEIGHT};
 
 use crate::nodes::{add, width};
@@ -63,7 +63,7 @@ fn fill_sibling(
     requires low { height ≤ 16 }
     requires room { sibling_of place * 2 ^ height + 2 ^ height ≤ length leaves.old }
     ensures octets { AreBytes 16 sum.now }
-    ensures filled { IsFilled level height place sum.now held.old held.new leaves.old leaves.new }
+    ensures filled { AreLeavesFilled level height place sum.now held.old held.new leaves.old leaves.new }
 {
     let (above, below) = held.split_at_mut(level as usize + 1);
     let right = place % 2 == 0;

@@ -8,9 +8,9 @@ use Rattle.zk_port.specs.Images.{HasDiskRoom, IsOutside, IsTorn, Only, StepsBy, 
 use Rattle.zk_port.proofs.Torn.{torn_by_write}
 use Rattle.zk_model.specs.declared.JournalKind.{JournalKind}
 use Rattle.zk_model.specs.declared.JournalKind.TheVariants.{Claims, Ceilings}
-use Rattle.zk_model.specs.Journals.{AreSound, AreUsed, body_before, first_bodies, journal_code, last_body, slots_at}
-use Rattle.zk_model.specs.Migrations.{SaysEither, SaysMoved, SaysOneArea, SaysTheSame, moved_slots, one_area_end}
-use Rattle.zk_model.specs.Twins.{HasMovedHeader, head_at, is_migrated, twin_length}
+use Rattle.lease_journal.specs.Journals.{AreSound, AreUsed, body_before, first_bodies, journal_code, last_body, slots_at}
+use Rattle.journal_migration.specs.Migrations.{SaysEither, SaysMoved, SaysOneArea, SaysTheSame, moved_slots, one_area_end}
+use Rattle.lease_journal.specs.Twins.{HasMovedHeader, head_at, is_migrated, twin_length}
 use Rattle.lease_journal.specs.Keeps.{ChangesAt}
 use Rattle.lease_journal.specs.OneAreas.{IsOneArea}
 use Rattle.lease_journal.proofs.Keeping.{SameBeside, moved_kept, torn_beside}
@@ -19,7 +19,7 @@ use Rattle.lease_journal.proofs.Sound.{before_slot, slots_sound}
 use Rattle.lease_journal.proofs.Moments.{leaves_also, stays_leaves, stays_then, then_leaves}
 use Rattle.lease_journal.proofs.Putting.{body_kept, first_same, length-first}
 use Rattle.lease_journal.proofs.Torn.{before_end, written_inside}
-use Rattle.journal_migration.specs.Migrating.{IsDone, MovesOn, MovesSafely, next_ceiling}
+use Rattle.journal_migration.specs.Migrating.{IsMigrationOver, MovesOn, MovesSafely, next_ceiling}
 use Rattle.twin_journal.specs.Laying.{HasAllBytes, IsLaid}
 use Rattle.twin_journal.proofs.SameAreas.{area_stays}
 use Rattle.twin_journal.proofs.TwinHeaders.{stands_same}
@@ -258,7 +258,7 @@ module _ (kind : JournalKind) (id : List ℕ) (total slots new_slots : ℕ) (bod
   }
 
   pub is_done : (new : DiskState) (used : ℕ) → used ≡ length next → IfSome new.content (SaysMoved kind id total slots new_slots next)
-      → IfSome new.content (HasAllBytes kind id total (one_area_end slots) new_slots next) → IsDone kind id total bytes used new
+      → IfSome new.content (HasAllBytes kind id total (one_area_end slots) new_slots next) → IsMigrationOver kind id total bytes used new
   is_done new used count now all = record {
     slots = slots;
     bodies = bodies;

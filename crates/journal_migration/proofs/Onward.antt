@@ -5,18 +5,18 @@ use Rattle.zk_port.specs.Disks.{DiskState, Stays}
 use Rattle.zk_port.specs.Images.{HasDiskRoom}
 use Rattle.zk_model.specs.declared.JournalKind.{JournalKind}
 use Rattle.zk_model.specs.declared.JournalKind.TheVariants.{Claims, Ceilings}
-use Rattle.zk_model.specs.Journals.{are_slots, ceiling_slots}
-use Rattle.zk_model.specs.Migrations.{moved_slots, one_area_end}
-use Rattle.zk_model.specs.Twins.{are_twin_slots, twin_length}
+use Rattle.lease_journal.specs.Journals.{are_slots, ceiling_slots}
+use Rattle.journal_migration.specs.Migrations.{moved_slots, one_area_end}
+use Rattle.lease_journal.specs.Twins.{are_twin_slots, twin_length}
 use Rattle.lease_core.specs.Spans.{meets_any}
 use Rattle.lease_journal.specs.OneAreas.{IsOneArea}
 use Rattle.lease_journal.specs.declared.fault.StartFault.TheVariants as start
-use Rattle.claim_store.specs.Causes.{HasReadCause, ReadCause}
+use Rattle.claim_store.specs.Causes.{HasReadCause, ClaimReadCause}
 use Rattle.claim_store.specs.Claims.{claim_at, first_claims}
 use Rattle.claim_store.specs.declared.fault.StoreFault.{StoreFault}
 use Rattle.claim_store.specs.declared.fault.StoreFault.TheVariants as store
 use Rattle.claim_store.proofs.Starting.{only_on}
-use Rattle.journal_migration.specs.Migrating.{IsDone, IsThere, MigrationCause, MovesOver, RefusesUnwritten}
+use Rattle.journal_migration.specs.Migrating.{IsMigrationOver, IsThere, MigrationCause, MovesOver, RefusesUnwritten}
 use Rattle.lease_journal.proofs.Moments.{stays_then}
 use Rattle.journal_migration.proofs.BehindIt.{moves_after}
 
@@ -53,7 +53,7 @@ pub moved_after : (kind : JournalKind) (id : List ℕ) (total : ℕ) (result : R
     → ((t : ℕ) (c : List ℕ) → t ≤ old.moment → old.images c → old.images_since t c) → ((c : List ℕ) → old.images_since old.moment c → old.images c)
     → Stays old mid → mid.faults ≡ old.faults → MovesOver kind id total mid new result → MovesOver kind id total old new result
 moved_after kind id total result {old} {mid} {new} counts only stays same over = record {
-  done = subst (λ content. IfOk result (λ count. (bytes : List ℕ) → content ≡ Some bytes → IsDone kind id total bytes count new)) stays.content over.done;
+  done = subst (λ content. IfOk result (λ count. (bytes : List ℕ) → content ≡ Some bytes → IsMigrationOver kind id total bytes count new)) stays.content over.done;
   moves = λ bytes is. moves_after kind id total bytes counts only stays (over.moves bytes (stays.content ∙ is));
   refused = refused_after result old mid new counts stays over.refused;
   durable = over.durable;
@@ -73,7 +73,7 @@ module _ (kind : JournalKind) (is : kind ≡ Claims) (id : List ℕ) (total slot
   meets true false keeps none = absurd (cc)
   meets false meet keeps none = absurd (cc)
 
-  pub read_moves : (fault : StoreFault) → ReadCause total 64 used bytes fault → MigrationCause kind id total bytes fault
+  pub read_moves : (fault : StoreFault) → ClaimReadCause total 64 used bytes fault → MigrationCause kind id total bytes fault
   read_moves store.NoMemory cause = is
   read_moves (store.Journal start.Device) cause = tt
   read_moves (store.Journal (start.Short need got)) cause = absurd cause

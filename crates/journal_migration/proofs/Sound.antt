@@ -3,9 +3,9 @@ use Rattle.std.proofs.Common.{◌≡◌, ◌<◌, ℕ, List, length, get_or, tru
 use Rattle.std.proofs.lemmas.Bool.{true≢false}
 use Rattle.zk_model.specs.declared.JournalKind.{JournalKind}
 use Rattle.zk_model.specs.declared.JournalKind.TheVariants.{Claims}
-use Rattle.zk_model.specs.ClaimedRanges.{claims_of}
-use Rattle.zk_model.specs.Journals.{AreSound, AreUsed, Recovers, first_bodies, last_body}
-use Rattle.zk_model.specs.Twins.{HasMovedHeader, is_migrated}
+use Rattle.claim_store.specs.ClaimedRanges.{claims_of}
+use Rattle.lease_journal.specs.Journals.{AreSound, AreUsed, Recovers, first_bodies, last_body}
+use Rattle.lease_journal.specs.Twins.{HasMovedHeader, is_migrated}
 use Rattle.lease_core.specs.Spans.{AreApart, IsApart, meets_any}
 use Rattle.lease_journal.specs.Causes.{OneAreaCause}
 use Rattle.lease_journal.specs.declared.fault.StartFault.{StartFault}

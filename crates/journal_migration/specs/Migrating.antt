@@ -4,10 +4,10 @@ use Rattle.zk_port.specs.Disks.{DiskState, LeavesOnly, Stays}
 use Rattle.zk_port.specs.Images.{HasDiskRoom, Only}
 use Rattle.zk_model.specs.declared.JournalKind.{JournalKind}
 use Rattle.zk_model.specs.declared.JournalKind.TheVariants.{Claims}
-use Rattle.zk_model.specs.ClaimedRanges.{claims_of}
-use Rattle.zk_model.specs.Migrations.{SaysEither, SaysMoved, SaysOneArea, SaysTheSame, moved_slots, one_area_end}
-use Rattle.zk_model.specs.Journals.{are_slots}
-use Rattle.zk_model.specs.Twins.{HasMovedHeader, is_migrated, twin_length}
+use Rattle.claim_store.specs.ClaimedRanges.{claims_of}
+use Rattle.journal_migration.specs.Migrations.{SaysEither, SaysMoved, SaysOneArea, SaysTheSame, moved_slots, one_area_end}
+use Rattle.lease_journal.specs.Journals.{are_slots}
+use Rattle.lease_journal.specs.Twins.{HasMovedHeader, is_migrated, twin_length}
 use Rattle.zk_model.specs.declared.limits.TheConstants.{MAX_SLOTS}
 use Rattle.lease_core.specs.Spans.{AreApart, meets_any}
 use Rattle.lease_journal.specs.Causes.{OneAreaCause}
@@ -40,7 +40,7 @@ MovesSafely kind id total bytes old new = (Stays old new × LeavesOnly old new o
 
 -- a journal of one area was in these bytes, and the content says the same with so many bodies in the area that counts now; each byte of the
 -- new journal is written
-pub record IsDone (kind : JournalKind) (id : List ℕ) (total : ℕ) (bytes : List ℕ) (used : ℕ) (new : DiskState) : Type 0 where
+pub record IsMigrationOver (kind : JournalKind) (id : List ℕ) (total : ℕ) (bytes : List ℕ) (used : ℕ) (new : DiskState) : Type 0 where
   pub slots : ℕ
   pub bodies : List (ℕ × ℕ)
   pub next : List (ℕ × ℕ)
@@ -53,7 +53,7 @@ pub record IsDone (kind : JournalKind) (id : List ℕ) (total : ℕ) (bytes : Li
 -- what the answer says
 abbrev pub MovedSays : JournalKind → List ℕ → ℕ → List ℕ → DiskState → DiskState → Moved → Type 0
 MovedSays kind id total bytes old new Already = HasMovedHeader kind id total bytes × (is_migrated kind bytes ≡ true) × Stays old new
-MovedSays kind id total bytes old new (Done used) = IsDone kind id total bytes used new
+MovedSays kind id total bytes old new (Done used) = IsMigrationOver kind id total bytes used new
 
 -- a migration that is refused for another reason than a fault of the disk writes nothing
 abbrev pub RefusesUnwritten : DiskState → DiskState → StoreFault → Type 0
@@ -100,7 +100,7 @@ pub record EndsAt (kind : JournalKind) (id : List ℕ) (total end slots : ℕ) (
 
 -- what a call does that moves such a journal on, and says how many bodies the new one has
 pub record MovesOver (kind : JournalKind) (id : List ℕ) (total : ℕ) (old new : DiskState) (result : Result ℕ StoreFault) : Type 0 where
-  pub done : IfOk result (λ count. (bytes : List ℕ) → old.content ≡ Some bytes → IsDone kind id total bytes count new)
+  pub done : IfOk result (λ count. (bytes : List ℕ) → old.content ≡ Some bytes → IsMigrationOver kind id total bytes count new)
   pub moves : (bytes : List ℕ) → old.content ≡ Some bytes → MovesSafely kind id total bytes old new
   pub refused : IfErr result (RefusesUnwritten old new)
   pub durable : OnOk result (Only new.content new.images)

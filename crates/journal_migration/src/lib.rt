@@ -7,8 +7,8 @@
 
 ghost use Rattle.std.specs.Prelude.{◌≡◌, ◌≤◌, ◌+◌, ℕ, List, Some, IfOk, IfErr, OnOk};
 ghost use Rattle.zk_port.specs.Images.{Only};
-ghost use Rattle.zk_model.specs.Migrations.{moved_slots, one_area_end};
-ghost use Rattle.zk_model.specs.Twins.{twin_length};
+ghost use Rattle.journal_migration.specs.Migrations.{moved_slots, one_area_end};
+ghost use Rattle.lease_journal.specs.Twins.{twin_length};
 ghost use Rattle.lease_journal.specs.Causes.{SaysSlots};
 ghost use Rattle.claim_store.specs.Causes.{HasReadCause};
 ghost use Rattle.journal_migration.specs.Migrating.{MigrationCause, MovedSays, MovesSafely, RefusesUnwritten, SoundIsMigrated};

@@ -1,7 +1,7 @@
 // How each side's journal is migrated.
 ghost use Rattle.std.specs.Prelude.{◌≡◌, ◌≤◌, ℕ, List, length, Some};
-ghost use Rattle.zk_model.specs.Journals.{AreSound, first_bodies};
-ghost use Rattle.zk_model.specs.Migrations.{SaysTheSame, moved_slots};
+ghost use Rattle.lease_journal.specs.Journals.{AreSound, first_bodies};
+ghost use Rattle.journal_migration.specs.Migrations.{SaysTheSame, moved_slots};
 ghost use Rattle.zk_model.specs.declared.JournalKind.TheVariants as kind;
 ghost use Rattle.journal_migration.specs.Migrating.{IsThere, MovesOver, next_ceiling};
 

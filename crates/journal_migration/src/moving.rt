@@ -3,9 +3,9 @@ ghost use Rattle.std.specs.Prelude.{◌≡◌, ◌≤◌, ◌+◌, ◌^◌, ℕ,
 ghost use Rattle.zk_port.specs.Counts.{HasDiskCause};
 ghost use Rattle.zk_port.specs.Disks.{LeavesOnly};
 ghost use Rattle.zk_port.specs.Images.{HasDiskRoom, Only};
-ghost use Rattle.zk_model.specs.Journals.{AreSound};
-ghost use Rattle.zk_model.specs.Migrations.{SaysEither, SaysMoved};
-ghost use Rattle.zk_model.specs.Twins.{are_twin_slots, twin_length};
+ghost use Rattle.lease_journal.specs.Journals.{AreSound};
+ghost use Rattle.journal_migration.specs.Migrations.{SaysEither, SaysMoved};
+ghost use Rattle.lease_journal.specs.Twins.{are_twin_slots, twin_length};
 ghost use Rattle.twin_journal.specs.Laying.{HasAllBytes};
 ghost use Rattle.journal_migration.specs.Migrating.{EndsAt};
 

@@ -1,9 +1,9 @@
 // How the claims of a journal of one area are read.
 ghost use Rattle.std.specs.Prelude.{◌≡◌, ◌≤◌, ◌<◌, ◌+◌, ◌*◌, ℕ, List, length, Some, IfOk, IfErr};
 ghost use Rattle.zk_port.specs.Disks.{Stays};
-ghost use Rattle.zk_model.specs.ClaimedRanges.{AreMerged, RiseFrom};
+ghost use Rattle.claim_store.specs.ClaimedRanges.{AreMerged, RiseFrom};
 ghost use Rattle.zk_model.specs.declared.limits.TheConstants.{MAX_SLOTS};
-ghost use Rattle.claim_store.specs.Causes.{HasReadCause, ReadCause};
+ghost use Rattle.claim_store.specs.Causes.{HasReadCause, ClaimReadCause};
 ghost use Rattle.claim_store.specs.Claims.{AreClaims, first_claims};
 
 use claim_store::StoreFault;
@@ -39,7 +39,7 @@ pub fn read_claims<B: Disk>(
         → AreMerged (first_claims 64 used bytes) ranges.items) }
     ensures stays { Stays (B.state disk.old) (B.state disk.new) }
     ensures cause { IfErr result (λ e. (bytes : List ℕ) → (B.state disk.old).content ≡ Some bytes
-        → ReadCause total 64 used bytes e) }
+        → ClaimReadCause total 64 used bytes e) }
     ensures faults { HasReadCause (B.state disk.old).faults (B.state disk.new).faults result }
 {
     let mut ranges = Vec::new(alloc);

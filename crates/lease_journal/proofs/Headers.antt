@@ -3,7 +3,7 @@ use Rattle.std.proofs.Common.{◌≡◌, ◌<◌, ◌≤◌, ◌+◌, ◌&&◌, 
 use Rattle.std.proofs.lemmas.Bool.Decides.{nat_tests}
 use Rattle.zk_model.specs.declared.JournalKind.{JournalKind}
 use Rattle.zk_model.specs.declared.JournalKind.TheVariants.{Claims, Ceilings}
-use Rattle.zk_model.specs.Journals.{number_at, slots_at}
+use Rattle.lease_journal.specs.Journals.{number_at, slots_at}
 use Rattle.lease_journal.specs.Headers.{IsFirstOf, IsRead, NoHeaderCause, is_wrong_beside, may_be_slots}
 use Rattle.lease_journal.specs.declared.fault.StartFault.{StartFault}
 use Rattle.lease_journal.specs.declared.fault.StartFault.TheVariants.{Device, Short, BadHeader, BadBody}

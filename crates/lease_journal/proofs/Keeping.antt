@@ -7,8 +7,8 @@ use Rattle.zk_port.specs.Disks.{DiskState, Stays, Steps}
 use Rattle.zk_port.specs.Images.{IsOutside, IsTorn, StepsBy, written_at}
 use Rattle.zk_port.proofs.Torn.{torn_by_write}
 use Rattle.zk_model.specs.declared.JournalKind.{JournalKind}
-use Rattle.zk_model.specs.Journals.{SameWhere, are_slots, journal_header, slots_at}
-use Rattle.zk_model.specs.Twins.{HasMovedHeader, is_wrong_beside_gate}
+use Rattle.lease_journal.specs.Journals.{SameWhere, are_slots, journal_header, slots_at}
+use Rattle.lease_journal.specs.Twins.{HasMovedHeader, is_wrong_beside_gate}
 use Rattle.lease_journal.specs.Keeps.{ChangesAt, IsSpared, Keeps}
 use Rattle.lease_journal.specs.Steps.{TornFrom}
 use Rattle.lease_journal.proofs.Moments.{goes_on, leaves_also, started, then_leaves}

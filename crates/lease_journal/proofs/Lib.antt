@@ -10,3 +10,4 @@ pub mod Headers
 pub mod MovedHeaders
 pub mod OneAreas
 pub mod Newly
+pub mod ExampleJournals

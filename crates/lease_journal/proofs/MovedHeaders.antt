@@ -5,8 +5,8 @@ use Rattle.std.proofs.lemmas.Bool.Decides.{nat_tests}
 use Rattle.std.proofs.lemmas.List.{get_or-set_same, get_or-set_other}
 use Rattle.zk_model.specs.declared.JournalKind.{JournalKind}
 use Rattle.zk_model.specs.declared.JournalKind.TheVariants.{Claims, Ceilings}
-use Rattle.zk_model.specs.Journals.{are_slots, ceiling_slots, journal_code, journal_header, slots_at}
-use Rattle.zk_model.specs.Twins.{HasMovedHeader, IsFirstMovedWrong, is_migrated, is_wrong_beside_gate}
+use Rattle.lease_journal.specs.Journals.{are_slots, ceiling_slots, journal_code, journal_header, slots_at}
+use Rattle.lease_journal.specs.Twins.{HasMovedHeader, IsFirstMovedWrong, is_migrated, is_wrong_beside_gate}
 use Rattle.lease_journal.specs.Headers.{IsFirstOf, IsRead, is_wrong_beside, may_be_slots}
 use Rattle.lease_journal.proofs.Headers.{first_same, fits_few, not_false, slots_read, wrong_alike}
 use Rattle.lease_journal.proofs.Reading.{read_byte}

@@ -1,6 +1,6 @@
 -- Journals of one area that stand are read.
 use Rattle.std.proofs.Common.{◌≡◌, ℕ, true, false, ⊎_elim, refl, sym, ◌∙◌, subst, arith}
-use Rattle.zk_model.specs.Journals.{AreSound, AreUsed, IsCut, first_bodies}
+use Rattle.lease_journal.specs.Journals.{AreSound, AreUsed, IsCut, first_bodies}
 use Rattle.lease_journal.specs.Laws.{OneAreaReadsAgain}
 use Rattle.lease_journal.specs.declared.fault.StartFault.TheVariants.{Device, Short, BadHeader, BadBody}
 use Rattle.lease_journal.proofs.Scanning.{not_cut, used_recovers}

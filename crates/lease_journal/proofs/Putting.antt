@@ -5,10 +5,10 @@ use Rattle.std.proofs.lemmas.List.{ext_get_or, get_or-take, get_or-drop, get_or_
 use Rattle.std.proofs.lemmas.List.FromFn.{get_or-map-range_with_len, length-map-range_with_len}
 use Rattle.std.proofs.lemmas.Nat.{from_le_bytes-to_le_bytes_8}
 use Rattle.std.specs.Int.{w64, to_le_bytes, from_le_bytes}
-use Rattle.zk_model.specs.Journals.{number_at}
+use Rattle.lease_journal.specs.Journals.{number_at}
 use Rattle.zk_port.specs.Images.{IsTorn, written_at}
 use Rattle.zk_port.proofs.Torn.{torn_by_write}
-use Rattle.zk_model.specs.Journals.{IsOpen, IsTidy, Recovers, IsOldOrNew, body_at, first_bodies}
+use Rattle.lease_journal.specs.Journals.{IsOpen, IsTidy, Recovers, IsOldOrNew, body_at, first_bodies}
 use Rattle.lease_journal.specs.Steps.{body_bytes, body_written}
 use Rattle.lease_journal.proofs.Torn.{before_end, behind_torn, same_part, written_size, written_inside}
 

@@ -2,7 +2,7 @@
 use Rattle.std.proofs.Common.{◌≡◌, ◌<◌, ◌≤◌, ◌+◌, ◌-◌, ◌*◌, ℕ, List, length, get_or, take, drop, min, refl, ap, sym, ◌∙◌, subst, arith}
 use Rattle.std.proofs.lemmas.List.{take_all, drop-drop, drop-take, take-take, get_or-take, get_or-drop}
 use Rattle.std.specs.Int.{w64, from_le_bytes}
-use Rattle.zk_model.specs.Journals.{body_at, number_at}
+use Rattle.lease_journal.specs.Journals.{body_at, number_at}
 use Rattle.lease_journal.specs.Headers.{IsRead}
 
 pub read_byte : (buffer bytes : List ℕ) (at size : ℕ) → IsRead buffer bytes at size → (i : ℕ) → i < size → get_or buffer i 0 ≡ get_or bytes (at + i) 0

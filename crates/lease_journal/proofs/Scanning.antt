@@ -2,7 +2,7 @@
 use Rattle.std.proofs.Common.{◌≡◌, ◌<◌, ◌≤◌, ◌+◌, ◌*◌, ◌^◌, ◌++◌, ℕ, zero, suc, List, [], ◌∷◌, Bool, true, false, length, Option, Some, None, IfSome, ⊎_elim, refl, ap, sym, ◌∙◌, subst, arith}
 use Rattle.std.proofs.lemmas.Bool.{cases_lt}
 use Rattle.zk_model.specs.declared.JournalKind.{JournalKind}
-use Rattle.zk_model.specs.Journals.{slots_at, Recovers, first_bodies, IsOpen, IsCut, AreUsed, IsFirstBad, is_sound_at, keeps_rule, body_at, body_before, last_body}
+use Rattle.lease_journal.specs.Journals.{slots_at, Recovers, first_bodies, IsOpen, IsCut, AreUsed, IsFirstBad, is_sound_at, keeps_rule, body_at, body_before, last_body}
 use Rattle.lease_journal.specs.Causes.{IsScanned, SlotCause, ScanCause, SlotSays, SaysSlots}
 use Rattle.lease_journal.specs.declared.fault.StartFault.{StartFault}
 use Rattle.lease_journal.specs.declared.fault.StartFault.TheVariants.{Device, Short, BadHeader, BadBody}

@@ -3,7 +3,7 @@ use Rattle.std.proofs.Common.{◌≡◌, ◌<◌, ◌≤◌, ◌+◌, ◌*◌, �
 use Rattle.std.specs.Option.{option_map}
 use Rattle.zk_port.specs.Disks.{DiskState, LeavesOnly}
 use Rattle.zk_port.specs.Images.{IsTorn, Only, StepsBy, written_at}
-use Rattle.zk_model.specs.Journals.{IsOpen, IsOldOrNew, IsTidy, Recovers, first_bodies}
+use Rattle.lease_journal.specs.Journals.{IsOpen, IsOldOrNew, IsTidy, Recovers, first_bodies}
 use Rattle.lease_journal.specs.Causes.{KeptAt}
 use Rattle.std.proofs.lemmas.Bool.{cases_lt}
 use Rattle.lease_journal.proofs.Moments.{leaves_also, then_leaves}

@@ -3,7 +3,7 @@ use Rattle.std.proofs.Common.{◌≡◌, ◌<◌, ◌≤◌, ◌+◌, ◌-◌, �
 use Rattle.std.proofs.lemmas.Bool.{cases_lt}
 use Rattle.std.proofs.lemmas.List.{get_or_append_left, get_or-append_right, length-append}
 use Rattle.zk_model.specs.declared.JournalKind.{JournalKind}
-use Rattle.zk_model.specs.Journals.{AreSound, IsFirstBad, Recovers, body_before, first_bodies, is_sound_at, keeps_rule, last_body}
+use Rattle.lease_journal.specs.Journals.{AreSound, IsFirstBad, Recovers, body_before, first_bodies, is_sound_at, keeps_rule, last_body}
 use Rattle.lease_journal.proofs.Putting.{first-at, length-first, no_body}
 
 pub before_left : (bodies : List (ℕ × ℕ)) (body : ℕ × ℕ) (place : ℕ) → place ≤ length bodies → body_before (bodies ++ body ∷ []) place ≡ body_before bodies place

@@ -5,8 +5,8 @@ use Rattle.zk_port.specs.Disks.{DiskState}
 use Rattle.zk_model.specs.declared.JournalKind.{JournalKind}
 use Rattle.lease_journal.specs.declared.fault.StartFault.{StartFault}
 use Rattle.lease_journal.specs.declared.fault.StartFault.TheVariants as start
-use Rattle.zk_model.specs.Journals.{IsTidy, Recovers, IsOpen, AreUsed, IsFirstBad, IsCut, body_at, last_body, slots_at}
-use Rattle.zk_model.specs.Twins.{HasMovedHeader, IsFirstMovedWrong, is_migrated}
+use Rattle.lease_journal.specs.Journals.{IsTidy, Recovers, IsOpen, AreUsed, IsFirstBad, IsCut, body_at, last_body, slots_at}
+use Rattle.lease_journal.specs.Twins.{HasMovedHeader, IsFirstMovedWrong, is_migrated}
 use Rattle.lease_journal.specs.declared.fault.JournalFault.{JournalFault}
 use Rattle.lease_journal.specs.declared.fault.JournalFault.TheVariants.{Device, Broken, Full}
 use Rattle.zk_model.specs.declared.limits.TheConstants.{MAX_SLOTS}

@@ -1,3 +1,5 @@
+pub mod Journals
+pub mod Twins
 pub mod Steps
 pub mod Causes
 pub mod Scans

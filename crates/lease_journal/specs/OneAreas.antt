@@ -2,8 +2,8 @@
 use Rattle.std.specs.Prelude.{◌≡◌, ℕ, ◌≤◌, List, None, true, false}
 use Rattle.zk_model.specs.declared.JournalKind.{JournalKind}
 use Rattle.zk_model.specs.declared.limits.TheConstants.{MAX_SLOTS}
-use Rattle.zk_model.specs.Journals.{AreUsed, IsFirstBad, are_slots, last_body, slots_at}
-use Rattle.zk_model.specs.Twins.{HasMovedHeader, is_migrated}
+use Rattle.lease_journal.specs.Journals.{AreUsed, IsFirstBad, are_slots, last_body, slots_at}
+use Rattle.lease_journal.specs.Twins.{HasMovedHeader, is_migrated}
 use Rattle.lease_journal.specs.Scans.{HasRead}
 use Rattle.lease_journal.specs.declared.one_area.OneArea.{OneArea}
 use Rattle.lease_journal.specs.declared.one_area.OneArea.TheVariants.{Moved, Here}

@@ -1,7 +1,7 @@
 -- How the slots are gone through.
 use Rattle.std.specs.Prelude.{◌≡◌, ℕ, List, length, Option, Some, None, Bool, true, false}
 use Rattle.zk_model.specs.declared.JournalKind.{JournalKind}
-use Rattle.zk_model.specs.Journals.{AreSound, body_before}
+use Rattle.lease_journal.specs.Journals.{AreSound, body_before}
 
 -- the first bad slot, with one slot more
 abbrev pub next_bad : Option ℕ → Bool → ℕ → Option ℕ

@@ -2,7 +2,7 @@
 use Rattle.std.specs.Prelude.{◌≡◌, ℕ, ◌<◌, ◌+◌, ◌*◌, List, [], ◌∷◌, ◌++◌}
 use Rattle.std.specs.Int.{w64, to_le_bytes}
 use Rattle.zk_port.specs.Images.{IsTorn, written_at}
-use Rattle.zk_model.specs.Journals.{IsOpen, IsTidy}
+use Rattle.lease_journal.specs.Journals.{IsOpen, IsTidy}
 
 -- what a torn write of n bytes makes of one of these
 abbrev pub TornFrom : ℕ → ℕ → (List ℕ → Type 0) → List ℕ → Type 0

@@ -4,7 +4,7 @@ ghost use Rattle.std.specs.Option.{option_map};
 ghost use Rattle.zk_port.specs.Counts.{HasDiskCause};
 ghost use Rattle.zk_port.specs.Disks.{LeavesOnly, Stays};
 ghost use Rattle.zk_port.specs.Images.{HasDiskRoom, Only};
-ghost use Rattle.zk_model.specs.Journals.{AreUsed, IsOldOrNew, SameWhere, body_at, first_bodies, keeps_rule, number_at};
+ghost use Rattle.lease_journal.specs.Journals.{AreUsed, IsOldOrNew, SameWhere, body_at, first_bodies, keeps_rule, number_at};
 ghost use Rattle.lease_journal.specs.Causes.{HasStartCause, SlotSays, SlotCause, IsScanned, ScanCause};
 ghost use Rattle.lease_journal.specs.Keeps.{ChangesAt, IsSpared, Keeps};
 ghost use Rattle.lease_journal.specs.Scans.{next_bad, HasRead};

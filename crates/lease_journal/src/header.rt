@@ -1,8 +1,8 @@
 // The headers of journals: what names one, and how the 64 bytes of either form are made, read and judged.
 ghost use Rattle.std.specs.Prelude.{◌≡◌, ◌<◌, ◌≤◌, ◌^◌, ℕ, List, Option, Some, None, IfOk, IfErr, true};
 ghost use Rattle.zk_port.specs.Disks.{Stays};
-ghost use Rattle.zk_model.specs.Journals.{are_slots, journal_code, slots_at};
-ghost use Rattle.zk_model.specs.Twins.{HasMovedHeader, IsFirstMovedWrong, is_migrated, is_wrong_beside_gate};
+ghost use Rattle.lease_journal.specs.Journals.{are_slots, journal_code, slots_at};
+ghost use Rattle.lease_journal.specs.Twins.{HasMovedHeader, IsFirstMovedWrong, is_migrated, is_wrong_beside_gate};
 ghost use Rattle.lease_journal.specs.Causes.{HasStartCause};
 ghost use Rattle.lease_journal.specs.Headers.{IsFirstOf, IsRead, NoHeaderCause, header_with, is_wrong_beside, may_be_slots};
 ghost use Rattle.lease_journal.specs.declared.fault.StartFault.TheVariants as start;

@@ -16,7 +16,7 @@
 #![tactic(auto)]
 
 ghost use Rattle.std.specs.Prelude.{◌≡◌};
-ghost use Rattle.zk_model.specs.Journals.{ceiling_slots, claim_slots};
+ghost use Rattle.lease_journal.specs.Journals.{ceiling_slots, claim_slots};
 ghost use Rattle.lease_journal.specs.Laws.{OneAreaReadsAgain};
 
 pub mod area;

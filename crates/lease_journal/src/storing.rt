@@ -3,7 +3,7 @@ ghost use Rattle.std.specs.Prelude.{◌≡◌, ◌<◌, ◌≤◌, ◌+◌, ◌^
 ghost use Rattle.std.specs.Option.{option_map};
 ghost use Rattle.zk_port.specs.Counts.{HasDiskCause};
 ghost use Rattle.zk_port.specs.Images.{HasDiskRoom, Only, written_at};
-ghost use Rattle.zk_model.specs.Journals.{number_at};
+ghost use Rattle.lease_journal.specs.Journals.{number_at};
 ghost use Rattle.lease_journal.specs.Keeps.{ChangesAt};
 
 use zk_port::{Disk, Failed};

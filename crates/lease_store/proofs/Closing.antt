@@ -8,12 +8,12 @@ use Rattle.lease_words.specs.declared.pass.Pass.{Pass}
 use Rattle.lease_words.specs.declared.view.View.{View}
 use Rattle.twin_journal.specs.States.{TwinState}
 use Rattle.lease_store.specs.Ceilings.{AreFound, FindsCeiling, SaysCeiling}
-use Rattle.lease_store.specs.Desks.{IsDesk}
+use Rattle.lease_store.specs.Desks.{IsLeaseDesk}
 use Rattle.lease_store.specs.Leases.{IsClosed}
 use Rattle.lease_store.proofs.Contents.{if_known}
 use Rattle.lease_store.proofs.Starting.{kept_says}
 
-module _ {D : Type 0} (state : D → DiskState) (start : DiskState) (id : List ℕ) (total base : ℕ) (journal : TwinState D) (v : View) (desk : IsDesk state start id total base journal v) where
+module _ {D : Type 0} (state : D → DiskState) (start : DiskState) (id : List ℕ) (total base : ℕ) (journal : TwinState D) (v : View) (desk : IsLeaseDesk state start id total base journal v) where
   -- what the desk keeps says that its ceiling is found
   pub found_of : AreFound start (state journal.disk) id total v.ceiling
   found_of = record {

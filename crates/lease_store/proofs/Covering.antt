@@ -6,8 +6,8 @@ use Rattle.zk_port.specs.Disks.{DiskState, LeavesOnly}
 use Rattle.zk_port.specs.Images.{IsTorn, Only}
 use Rattle.zk_model.specs.declared.JournalKind.TheVariants.{Ceilings}
 use Rattle.zk_model.specs.declared.limits.TheConstants.{MAX_STORE_UNITS}
-use Rattle.zk_model.specs.Journals.{AreSound, keeps_rule}
-use Rattle.zk_model.specs.Twins.{MayHaveGeneration, SaysOldOrNew, SaysTwin, area_at, head_at, twin_begin, twin_ceiling_slots}
+use Rattle.lease_journal.specs.Journals.{AreSound, keeps_rule}
+use Rattle.lease_journal.specs.Twins.{MayHaveGeneration, SaysOldOrNew, SaysTwin, area_at, head_at, twin_begin, twin_ceiling_slots}
 use Rattle.lease_journal.specs.declared.fault.JournalFault.{JournalFault}
 use Rattle.lease_journal.specs.declared.fault.JournalFault.TheVariants.{Device, Broken, Full}
 use Rattle.lease_journal.specs.Keeps.{ChangesAt}
@@ -18,8 +18,8 @@ use Rattle.lease_words.specs.declared.view.View.{View}
 use Rattle.twin_journal.specs.States.{IsKept, TwinState}
 use Rattle.twin_journal.proofs.TwinHeaders.{holds_torn}
 use Rattle.lease_store.specs.Ceilings.{FindsCeiling, HasCeilings, last_ceiling}
-use Rattle.lease_store.specs.Desks.{CoverCause, IsDesk, IsKeptAt}
-use Rattle.lease_store.specs.Raising.{after_ceiling, next_bodies, next_generation}
+use Rattle.lease_store.specs.Desks.{CoverCause, IsLeaseDesk, IsKeptAt}
+use Rattle.lease_store.specs.Raising.{after_ceiling, raised_bodies, raised_generation}
 use Rattle.lease_store.proofs.Bodies.{last_next, may_next, sound_next}
 use Rattle.lease_store.proofs.Contents.{known_after, known_before, some_and, some_of}
 use Rattle.lease_store.proofs.Places.{begins_once}
@@ -74,7 +74,7 @@ record GoesOn {D : Type 0} (full : Bool) (old now : TwinState D) (ceiling : ℕ)
   pub slots : now.slots ≡ old.slots
   pub last : now.last.0 ≡ ceiling
   pub fault : now.fault ≡ old.fault
-  pub generation : old.generation + 1 < 2 ^ 64 → now.generation ≡ next_generation full old.generation
+  pub generation : old.generation + 1 < 2 ^ 64 → now.generation ≡ raised_generation full old.generation
 
 goes_on : {D : Type 0} (full : Bool) (old now : TwinState D) (ceiling : ℕ) → now ≡ after_ceiling full old now.disk ceiling → GoesOn full old now ceiling
 goes_on {D} true old now ceiling is = record {
@@ -98,7 +98,7 @@ small_next : (total last generation : ℕ) (bodies : List (ℕ × ℕ)) → tota
 small_next total last generation bodies few low is may = omega (arith, few, low, is, may.most)
 
 module _ {D : Type 0} (state : D → DiskState) (start : DiskState) (id : List ℕ) (total base : ℕ) (old : TwinState D) (v : View)
-    (desk : IsDesk state start id total base old v) (few : total ≤ MAX_STORE_UNITS) (end ceiling : ℕ) (rounded : IsRounded total end old.last.0 ceiling) (free : old.fault ≡ 0)
+    (desk : IsLeaseDesk state start id total base old v) (few : total ≤ MAX_STORE_UNITS) (end ceiling : ℕ) (rounded : IsRounded total end old.last.0 ceiling) (free : old.fault ≡ 0)
     (full : Bool) (now : TwinState D) (changes : ChangesAt (old.begin + 64) (64 * (old.slots + 1)) (state old.disk) (state now.disk)) where
   abbrev step : List ℕ → List ℕ → Type 0
   step = IsTorn (old.begin + 64) (64 * (old.slots + 1))
@@ -117,14 +117,14 @@ module _ {D : Type 0} (state : D → DiskState) (start : DiskState) (id : List �
       may_have = may;
     }
 
-    sound_new : AreSound Ceilings total (next_bodies full was.bodies (ceiling, 0))
+    sound_new : AreSound Ceilings total (raised_bodies full was.bodies (ceiling, 0))
     sound_new = sound_next full total was.bodies ceiling was.says.sound (ap (λ n. keeps_rule Ceilings total n (ceiling, 0)) was.last ∙ rounded.rule)
 
-    may_new : MayHaveGeneration Ceilings (next_bodies full was.bodies (ceiling, 0)) (next_generation full old.generation)
+    may_new : MayHaveGeneration Ceilings (raised_bodies full was.bodies (ceiling, 0)) (raised_generation full old.generation)
     may_new = may_next full was.bodies old.generation ceiling (omega (arith, was.last, rounded.above)) was.says.may_have
 
     found_one : (first : List ℕ) → twin_begin Ceilings first ≡ old.begin
-        → SaysOldOrNew old.begin old.slots old.generation was.bodies (next_generation full old.generation) (next_bodies full was.bodies (ceiling, 0)) image
+        → SaysOldOrNew old.begin old.slots old.generation was.bodies (raised_generation full old.generation) (raised_bodies full was.bodies (ceiling, 0)) image
         → FindsCeiling id total old.last.0 first image
     found_one first began one = ⊎_elim
         (λ says. record {
@@ -137,27 +137,27 @@ module _ {D : Type 0} (state : D → DiskState) (start : DiskState) (id : List �
         })
         (λ says. record {
           begin = old.begin;
-          generation = next_generation full old.generation;
-          bodies = next_bodies full was.bodies (ceiling, 0);
-          says = has (next_generation full old.generation) (next_bodies full was.bodies (ceiling, 0)) says sound_new may_new;
+          generation = raised_generation full old.generation;
+          bodies = raised_bodies full was.bodies (ceiling, 0);
+          says = has (raised_generation full old.generation) (raised_bodies full was.bodies (ceiling, 0)) says sound_new may_new;
           reaches = omega (arith, last_next full was.bodies (ceiling, 0), rounded.above);
           began = began;
         })
         one.says
 
-    kept_new : GoesOn full old now ceiling → IsKept state now (next_bodies full was.bodies (ceiling, 0)) image → IsKeptAt state id total now image
+    kept_new : GoesOn full old now ceiling → IsKept state now (raised_bodies full was.bodies (ceiling, 0)) image → IsKeptAt state id total now image
     kept_new goes kept =
-        let there : SaysTwin now.begin now.slots now.generation (next_bodies full was.bodies (ceiling, 0)) image = record { second = now.second; area = kept.area } in
-        let here : SaysTwin old.begin old.slots (next_generation full old.generation) (next_bodies full was.bodies (ceiling, 0)) image =
-        subst (λ n. SaysTwin n old.slots (next_generation full old.generation) (next_bodies full was.bodies (ceiling, 0)) image) goes.begin
-        (subst (λ n. SaysTwin now.begin n (next_generation full old.generation) (next_bodies full was.bodies (ceiling, 0)) image) goes.slots
-        (subst (λ n. SaysTwin now.begin now.slots n (next_bodies full was.bodies (ceiling, 0)) image) (goes.generation (small bytes was)) there)) in
+        let there : SaysTwin now.begin now.slots now.generation (raised_bodies full was.bodies (ceiling, 0)) image = record { second = now.second; area = kept.area } in
+        let here : SaysTwin old.begin old.slots (raised_generation full old.generation) (raised_bodies full was.bodies (ceiling, 0)) image =
+        subst (λ n. SaysTwin n old.slots (raised_generation full old.generation) (raised_bodies full was.bodies (ceiling, 0)) image) goes.begin
+        (subst (λ n. SaysTwin now.begin n (raised_generation full old.generation) (raised_bodies full was.bodies (ceiling, 0)) image) goes.slots
+        (subst (λ n. SaysTwin now.begin now.slots n (raised_bodies full was.bodies (ceiling, 0)) image) (goes.generation (small bytes was)) there)) in
         record {
-          bodies = next_bodies full was.bodies (ceiling, 0);
+          bodies = raised_bodies full was.bodies (ceiling, 0);
           kept = kept;
-          says = subst (λ n. HasCeilings id total n now.generation (next_bodies full was.bodies (ceiling, 0)) image) (sym goes.begin)
-              (subst (λ n. HasCeilings id total old.begin n (next_bodies full was.bodies (ceiling, 0)) image) (sym (goes.generation (small bytes was)))
-              (has (next_generation full old.generation) (next_bodies full was.bodies (ceiling, 0)) here sound_new may_new));
+          says = subst (λ n. HasCeilings id total n now.generation (raised_bodies full was.bodies (ceiling, 0)) image) (sym goes.begin)
+              (subst (λ n. HasCeilings id total old.begin n (raised_bodies full was.bodies (ceiling, 0)) image) (sym (goes.generation (small bytes was)))
+              (has (raised_generation full old.generation) (raised_bodies full was.bodies (ceiling, 0)) here sound_new may_new));
           last = last_next full was.bodies (ceiling, 0) ∙ sym goes.last;
         }
 
@@ -170,7 +170,7 @@ module _ {D : Type 0} (state : D → DiskState) (start : DiskState) (id : List �
 
   -- a crash meanwhile leaves the ceiling, or a higher one
   module _ (leaves : (bytes : List ℕ) (bodies : List (ℕ × ℕ)) → IsKept state old bodies bytes → old.generation + 1 < 2 ^ 64
-      → LeavesOnly (state old.disk) (state now.disk) (SaysOldOrNew old.begin old.slots old.generation bodies (next_generation full old.generation) (next_bodies full bodies (ceiling, 0)))) where
+      → LeavesOnly (state old.disk) (state now.disk) (SaysOldOrNew old.begin old.slots old.generation bodies (raised_generation full old.generation) (raised_bodies full bodies (ceiling, 0)))) where
     pub raise_leaves : (first : List ℕ) → start.content ≡ Some first → LeavesOnly (state old.disk) (state now.disk) (FindsCeiling id total old.last.0 first)
     raise_leaves first begun =
         let was = some_of (state old.disk).content (desk.read first begun) in
@@ -188,9 +188,9 @@ module _ {D : Type 0} (state : D → DiskState) (start : DiskState) (id : List �
 
     pub raised : now ≡ after_ceiling full old now.disk ceiling
         → ((bytes : List ℕ) (bodies : List (ℕ × ℕ)) → IsKept state old bodies bytes → old.generation + 1 < 2 ^ 64
-        → IfSome (state now.disk).content (IsKept state now (next_bodies full bodies (ceiling, 0))))
+        → IfSome (state now.disk).content (IsKept state now (raised_bodies full bodies (ceiling, 0))))
         → Only (state now.disk).content (state now.disk).images → (state now.disk).faults ≡ (state old.disk).faults
-        → IsDesk state start id total base now (after_raise v ceiling)
+        → IsLeaseDesk state start id total base now (after_raise v ceiling)
     raised is recovered only same = record {
       total_is = desk.total_is;
       ceiling = sym goes.last;
@@ -221,7 +221,7 @@ module _ {D : Type 0} (state : D → DiskState) (start : DiskState) (id : List �
         kept_at was bytes there here torn =
             let kept = desk.kept free was there in
             kept_new was bytes kept torn goes
-            (subst (λ o. IfSome o (IsKept state now (next_bodies full kept.bodies (ceiling, 0)))) here (recovered was kept.bodies kept.kept (small was kept)))
+            (subst (λ o. IfSome o (IsKept state now (raised_bodies full kept.bodies (ceiling, 0)))) here (recovered was kept.bodies kept.kept (small was kept)))
 
         kept_now : (bytes : List ℕ) → (state now.disk).content ≡ Some bytes → IsKeptAt state id total now bytes
         kept_now bytes told = let was = known_before step (state old.disk).content (state now.disk).content bytes changes.content told in kept_at was.0 bytes was.1 told was.2
@@ -245,11 +245,11 @@ module _ {D : Type 0} (state : D → DiskState) (start : DiskState) (id : List �
 
     pub refused : now ≡ record old { disk = now.disk; fault = now.fault }
         → ((bytes : List ℕ) (bodies : List (ℕ × ℕ)) → IsKept state old bodies bytes → old.generation + 1 < 2 ^ 64
-        → IfSome (state now.disk).content (SaysOldOrNew old.begin old.slots old.generation bodies (next_generation full old.generation) (next_bodies full bodies (ceiling, 0))))
+        → IfSome (state now.disk).content (SaysOldOrNew old.begin old.slots old.generation bodies (raised_generation full old.generation) (raised_bodies full bodies (ceiling, 0))))
         → ((t : ℕ) (c : List ℕ) → t ≤ (state now.disk).moment → (state now.disk).images c → (state now.disk).images_since t c)
         → (state old.disk).faults ≤ (state now.disk).faults → Rose (state old.disk).faults (state now.disk).faults → now.fault ≡ (state now.disk).faults → 0 < now.fault
-        → IsDesk state start id total base now (after_mark v now.fault)
-    refused kept_state read counts grows rose is some = subst (λ t. IsDesk state start id total base t (after_mark v now.fault)) (sym kept_state) (record {
+        → IsLeaseDesk state start id total base now (after_mark v now.fault)
+    refused kept_state read counts grows rose is some = subst (λ t. IsLeaseDesk state start id total base t (after_mark v now.fault)) (sym kept_state) (record {
       total_is = desk.total_is;
       ceiling = desk.ceiling;
       mark = refl;
@@ -263,7 +263,7 @@ module _ {D : Type 0} (state : D → DiskState) (start : DiskState) (id : List �
           let was = some_of (state old.disk).content (desk.read first begun) in
           let here = known_after step (state old.disk).content (state now.disk).content was.0 changes.content was.1 in
           let kept = desk.kept free was.0 was.1 in
-          let one = subst (λ o. IfSome o (SaysOldOrNew old.begin old.slots old.generation kept.bodies (next_generation full old.generation) (next_bodies full kept.bodies (ceiling, 0)))) here.1
+          let one = subst (λ o. IfSome o (SaysOldOrNew old.begin old.slots old.generation kept.bodies (raised_generation full old.generation) (raised_bodies full kept.bodies (ceiling, 0)))) here.1
           (read was.0 kept.bodies kept.kept (small was.0 kept)) in
           some_and (FindsCeiling id total old.last.0 first) (state now.disk).content here.0 here.1
           (found_one was.0 here.0 kept here.2 first (began_there first was.0 kept was.2) one);

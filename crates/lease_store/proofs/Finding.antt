@@ -3,7 +3,7 @@ use Rattle.std.proofs.Common.{◌≡◌, ◌≤◌, ℕ, List, [], true, Option,
 use Rattle.std.proofs.lemmas.Bool.Decides.{nat_tests}
 use Rattle.zk_model.specs.declared.JournalKind.TheVariants.{Ceilings}
 use Rattle.zk_model.specs.declared.limits.TheConstants.{MAX_SLOTS}
-use Rattle.zk_model.specs.Twins.{are_twin_slots, SaysTwin, twin_ceiling_slots}
+use Rattle.lease_journal.specs.Twins.{are_twin_slots, SaysTwin, twin_ceiling_slots}
 use Rattle.lease_journal.proofs.Sound.{none_sound}
 use Rattle.twin_journal.specs.Laws.{IsNewTwin}
 use Rattle.twin_journal.specs.Starts.{AreTidy}

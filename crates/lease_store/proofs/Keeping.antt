@@ -9,9 +9,9 @@ use Rattle.lease_words.specs.Views.{journal_of}
 use Rattle.lease_words.specs.declared.view.View.{View}
 use Rattle.twin_journal.specs.States.{TwinState}
 use Rattle.lease_store.specs.Ceilings.{FindsCeiling}
-use Rattle.lease_store.specs.Desks.{IsDesk}
+use Rattle.lease_store.specs.Desks.{IsLeaseDesk}
 use Rattle.lease_store.specs.Raising.{after_ceiling, are_all_used}
-use Rattle.lease_store.specs.Storing.{Leaves, MayFollow, Moved, Stores}
+use Rattle.lease_store.specs.Storing.{LeavesCeiling, CeilingMayFollow, Moved, Stores}
 use Rattle.lease_store.specs.Stops.{WasStored}
 use Rattle.lease_store.proofs.Covering.{finds_lower, not_device, raise_leaves, raised, refused, unchanged}
 use Rattle.lease_store.proofs.Rounding.{IsRounded}
@@ -19,7 +19,7 @@ use Rattle.lease_store.proofs.Starting.{opens}
 
 -- what a desk keeps is stored
 module _ {D : Type 0} (state : D → DiskState) (start : DiskState) (id : List ℕ) (total base : ℕ) (journal : TwinState D) (v : View)
-    (desk : IsDesk state start id total base journal v) where
+    (desk : IsLeaseDesk state start id total base journal v) where
   found_in : (bytes : List ℕ) → (state journal.disk).content ≡ Some bytes → (first : List ℕ) → start.content ≡ Some first → FindsCeiling id total journal.last.0 first bytes
   found_in bytes is first begun = subst (λ o. IsSomeAnd o (FindsCeiling id total journal.last.0 first)) is (desk.read first begun)
 
@@ -52,7 +52,7 @@ module _ {D : Type 0} (state : D → DiskState) (start : DiskState) (id : List �
 
 -- the same of the total that the journal keeps itself
 pub desk_stores : {D : Type 0} (state : D → DiskState) (start : DiskState) (id : List ℕ) (own total base : ℕ) (journal : TwinState D) (v : View) → own ≡ total
-    → IsDesk state start id total base journal v → own ≤ MAX_STORE_UNITS → Stores state own journal journal.last.0
+    → IsLeaseDesk state start id total base journal v → own ≤ MAX_STORE_UNITS → Stores state own journal journal.last.0
 desk_stores state start id own total base journal v is desk few =
     subst (λ n. Stores state n journal journal.last.0) (sym is) (stores_of state start id total base journal v desk (omega (arith, is, few)) journal.last.0 (omega arith))
 
@@ -84,10 +84,10 @@ module _ {D : Type 0} (state : D → DiskState)
     (only_now : (disk : D) (c : List ℕ) → (state disk).images_since (state disk).moment c → (state disk).images c)
     (total : ℕ) (old : TwinState D) where
   -- a journal that has not failed is a desk that has just started
-  desk_of : old.fault ≡ 0 → (c : ℕ) → (s : Stores state total old c) → IsDesk state (state old.disk) s.id total old.last.0 old (journal_of [] old.last.0 total 0)
+  desk_of : old.fault ≡ 0 → (c : ℕ) → (s : Stores state total old c) → IsLeaseDesk state (state old.disk) s.id total old.last.0 old (journal_of [] old.last.0 total 0)
   desk_of free c s = opens state s.id [] total 0 old (record { slots_are = s.slots_are; low = s.low }) free (s.kept free) (s.only free) (only_now old.disk)
 
-  module _ (ceiling : ℕ) (may : MayFollow total old.last.0 ceiling) (now : TwinState D) where
+  module _ (ceiling : ℕ) (may : CeilingMayFollow total old.last.0 ceiling) (now : TwinState D) where
     rounded : IsRounded total ceiling old.last.0 ceiling
     rounded = record { reaches = omega arith; low = may.low; above = may.above; rule = may.rule }
 
@@ -125,20 +125,20 @@ module _ {D : Type 0} (state : D → DiskState)
     keeps (Err (Full slots)) moved c s = subst (λ t. Stores state total t c) (sym (same (Full slots) (λ e. cc e) moved)) s
 
     -- and is so at each moment meanwhile
-    moments_free : old.fault ≡ 0 → (result : Result (Unit {0}) JournalFault) → Moved state old ceiling result now → (c : ℕ) → Stores state total old c → Leaves state total old now c
+    moments_free : old.fault ≡ 0 → (result : Result (Unit {0}) JournalFault) → Moved state old ceiling result now → (c : ℕ) → Stores state total old c → LeavesCeiling state total old now c
     moments_free free result moved c s bytes is = (
       s.id,
       leaves_also (raise_leaves state (state old.disk) s.id total old.last.0 old (journal_of [] old.last.0 total 0) (desk_of free c s) s.few ceiling ceiling rounded free
           (are_all_used old) now moved.changes moved.any_moment bytes is) (λ image found. finds_lower s.id total c old.last.0 bytes image s.reaches found),
     )
 
-    moments_same : now ≡ old → (c : ℕ) → Stores state total old c → Leaves state total old now c
-    moments_same is c s = subst (λ t. Leaves state total old t c) (sym is) (λ bytes told. (
+    moments_same : now ≡ old → (c : ℕ) → Stores state total old c → LeavesCeiling state total old now c
+    moments_same is c s = subst (λ t. LeavesCeiling state total old t c) (sym is) (λ bytes told. (
       s.id,
       started (state old.disk) (λ image left. finds_lower s.id total c old.last.0 bytes image s.reaches (s.each bytes told image (only_now old.disk image left))),
     ))
 
-    pub moments : (result : Result (Unit {0}) JournalFault) → Moved state old ceiling result now → (c : ℕ) → Stores state total old c → Leaves state total old now c
+    pub moments : (result : Result (Unit {0}) JournalFault) → Moved state old ceiling result now → (c : ℕ) → Stores state total old c → LeavesCeiling state total old now c
     moments (Ok tt) moved c s = moments_free moved.served (Ok tt) moved c s
     moments (Err Device) moved c s = moments_free moved.cause.0 (Err Device) moved c s
     moments (Err (Broken first)) moved c s = moments_same (same (Broken first) (λ e. cc e) moved) c s

@@ -1,7 +1,7 @@
 -- Where the journal of ceilings begins.
 use Rattle.std.proofs.Common.{◌≡◌, ℕ, List, ap, sym, ◌∙◌, subst}
 use Rattle.zk_model.specs.declared.JournalKind.TheVariants.{Ceilings}
-use Rattle.zk_model.specs.Twins.{HoldsTwin, twin_begin, twin_slots_at}
+use Rattle.lease_journal.specs.Twins.{HoldsTwin, twin_begin, twin_slots_at}
 use Rattle.lease_store.specs.Ceilings.{HasCeilingHeader}
 
 -- it begins at one place

@@ -3,7 +3,7 @@ use Rattle.std.proofs.Common.{◌≡◌, ◌<◌, ◌≤◌, ◌+◌, ◌*◌, �
 use Rattle.std.proofs.lemmas.Bool.Decides.{nat_tests}
 use Rattle.std.proofs.lemmas.Bool.{cases_lt}
 use Rattle.zk_model.specs.declared.JournalKind.TheVariants.{Ceilings}
-use Rattle.zk_model.specs.Journals.{keeps_rule}
+use Rattle.lease_journal.specs.Journals.{keeps_rule}
 use Rattle.lease_core.specs.Machine.{ceiling_for}
 
 -- a ceiling that may follow the last one, and reaches an end

@@ -5,8 +5,8 @@ use Rattle.zk_port.specs.Counts.{Rose}
 use Rattle.zk_port.specs.Disks.{DiskState}
 use Rattle.zk_port.specs.Images.{Only}
 use Rattle.zk_model.specs.declared.JournalKind.TheVariants.{Ceilings}
-use Rattle.zk_model.specs.Journals.{AreSound, body_before, first_bodies, keeps_rule}
-use Rattle.zk_model.specs.Twins.{HoldsTwin, SaysTwin, are_twin_slots, area_at, twin_begin, twin_ceiling_slots}
+use Rattle.lease_journal.specs.Journals.{AreSound, body_before, first_bodies, keeps_rule}
+use Rattle.lease_journal.specs.Twins.{HoldsTwin, SaysTwin, are_twin_slots, area_at, twin_begin, twin_ceiling_slots}
 use Rattle.lease_journal.specs.Scans.{HasRead}
 use Rattle.lease_journal.proofs.Moments.{leaves_also, started}
 use Rattle.lease_journal.proofs.Sound.{slots_sound}
@@ -15,7 +15,7 @@ use Rattle.twin_journal.specs.States.{IsKept, TwinState}
 use Rattle.lease_words.specs.Views.{journal_of}
 use Rattle.lease_words.specs.declared.view.View.{View}
 use Rattle.lease_store.specs.Ceilings.{FindsCeiling, HasCeilingHeader, HasCeilings, SaysCeiling}
-use Rattle.lease_store.specs.Desks.{Begins, IsDesk, IsKeptAt}
+use Rattle.lease_store.specs.Desks.{Begins, IsLeaseDesk, IsKeptAt}
 use Rattle.lease_store.proofs.Bodies.{last_of_first}
 use Rattle.lease_store.proofs.Places.{holds_there}
 use Rattle.lease_store.proofs.Covering.{finds_lower}
@@ -97,7 +97,7 @@ module _ {D : Type 0} (state : D → DiskState) (id name : List ℕ) (total pass
       → ((bytes : List ℕ) → (state journal.disk).content ≡ Some bytes → IsKeptAt state id total journal bytes)
       → Only (state journal.disk).content (state journal.disk).images
       → ((c : List ℕ) → (state journal.disk).images_since (state journal.disk).moment c → (state journal.disk).images c)
-      → IsDesk state (state journal.disk) id total journal.last.0 journal (journal_of name journal.last.0 total passes)
+      → IsLeaseDesk state (state journal.disk) id total journal.last.0 journal (journal_of name journal.last.0 total passes)
   opens right none kept only only_now = record {
     total_is = refl;
     ceiling = refl;
@@ -133,7 +133,7 @@ begins_here s only_now = record { chosen = refl; content = refl; room = refl; fa
 -- the desk of a store that has a name
 pub named : {D : Type 0} (state : D → DiskState) (start : DiskState) (id : List ℕ) (total base : ℕ) (journal : TwinState D) (v : View)
     → Begins start (state journal.disk) → base ≡ journal.last.0
-    → IsDesk state (state journal.disk) id total base journal v → IsDesk state start id total base journal v
+    → IsLeaseDesk state (state journal.disk) id total base journal v → IsLeaseDesk state start id total base journal v
 named state start id total base journal v begins same desk = record {
   total_is = desk.total_is;
   ceiling = desk.ceiling;

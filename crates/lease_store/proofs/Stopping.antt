@@ -2,7 +2,7 @@
 use Rattle.std.proofs.Common.{ℕ, ◌≤◌, List, [], ◌∷◌, arith}
 use Rattle.zk_port.specs.Disks.{DiskState}
 use Rattle.twin_journal.specs.States.{TwinState}
-use Rattle.lease_store.specs.Storing.{Leaves, Stores}
+use Rattle.lease_store.specs.Storing.{LeavesCeiling, Stores}
 use Rattle.lease_store.specs.Stops.{Deed, asks, shows, grants, IsSafe, LeavesEach, MayDo, StopsAreSafe, StoresEach}
 use Rattle.lease_store.proofs.Keeping.{keeps, moments, stores_lower}
 
@@ -22,7 +22,7 @@ module _ {D : Type 0} (state : D → DiskState)
   stores_each total shown journal [] s up = tt
   stores_each total shown journal (end ∷ ends) s up = (stores_lower state total journal end shown up.0 s, stores_each total shown journal ends s up.1)
 
-  leaves_each : (total : ℕ) (journal now : TwinState D) (ends : List ℕ) → ((c : ℕ) → Stores state total journal c → Leaves state total journal now c)
+  leaves_each : (total : ℕ) (journal now : TwinState D) (ends : List ℕ) → ((c : ℕ) → Stores state total journal c → LeavesCeiling state total journal now c)
       → StoresEach state total journal ends → LeavesEach state total journal now ends
   leaves_each total journal now [] each s = tt
   leaves_each total journal now (end ∷ ends) each s = (each end s.0, leaves_each total journal now ends each s.1)

@@ -4,8 +4,8 @@ use Rattle.zk_port.specs.Disks.{DiskState}
 use Rattle.lease_journal.specs.declared.fault.StartFault.{StartFault}
 use Rattle.twin_journal.specs.Starts.{FileCause, IsTidyFile, SaysTwinSlots}
 use Rattle.zk_model.specs.declared.JournalKind.TheVariants.{Ceilings}
-use Rattle.zk_model.specs.Journals.{AreSound, body_before}
-use Rattle.zk_model.specs.Twins.{HoldsTwin, MayHaveGeneration, SaysTwin, twin_begin, twin_ceiling_slots, twin_length}
+use Rattle.lease_journal.specs.Journals.{AreSound, body_before}
+use Rattle.lease_journal.specs.Twins.{HoldsTwin, MayHaveGeneration, SaysTwin, twin_begin, twin_ceiling_slots, twin_length}
 
 -- the last ceiling, or 0 where there is none
 abbrev pub last_ceiling : List (ℕ × ℕ) → ℕ

@@ -4,7 +4,7 @@ use Rattle.atomic_table.specs.Seated.{TableId}
 use Rattle.zk_port.specs.Counts.{Rose}
 use Rattle.zk_port.specs.Disks.{DiskState, LeavesOnly, untold}
 use Rattle.zk_port.specs.Images.{Only}
-use Rattle.zk_model.specs.Twins.{twin_ceiling_slots}
+use Rattle.lease_journal.specs.Twins.{twin_ceiling_slots}
 use Rattle.lease_journal.specs.declared.fault.JournalFault.{JournalFault}
 use Rattle.lease_journal.specs.declared.fault.JournalFault.TheVariants.{Device, Broken, Full}
 use Rattle.twin_journal.specs.States.{IsKept, TwinState}
@@ -36,7 +36,7 @@ pub record Begins (start now : DiskState) : Type 0 where
 
 -- An open journal of this id and total, and the view of its seat. `start` is the disk as it was when the journal was opened, and `base`
 -- the ceiling then.
-pub record IsDesk {D : Type 0} (state : D → DiskState) (start : DiskState) (id : List ℕ) (total base : ℕ) (journal : TwinState D) (v : View) : Type 0 where
+pub record IsLeaseDesk {D : Type 0} (state : D → DiskState) (start : DiskState) (id : List ℕ) (total base : ℕ) (journal : TwinState D) (v : View) : Type 0 where
   -- the seat's ceiling is the journal's last, and its mark is the fault that the journal keeps, or 0
   pub total_is : v.total ≡ total
   pub ceiling : v.ceiling ≡ journal.last.0

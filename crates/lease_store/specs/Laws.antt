@@ -1,7 +1,7 @@
 -- What holds of every journal of ceilings.
 use Rattle.std.specs.Prelude.{◌≡◌, ◌≤◌, ℕ, List, length}
 use Rattle.zk_model.specs.declared.JournalKind.TheVariants.{Ceilings}
-use Rattle.zk_model.specs.Twins.{blank_twin_bytes, twin_ceiling_slots}
+use Rattle.lease_journal.specs.Twins.{blank_twin_bytes, twin_ceiling_slots}
 use Rattle.lease_journal.specs.declared.fault.StartFault.{StartFault}
 use Rattle.lease_journal.specs.declared.fault.StartFault.TheVariants.{Device}
 use Rattle.lease_store.specs.Ceilings.{CeilingStartCause, FindsCeiling, SaysCeiling}

@@ -21,7 +21,7 @@ IsPassAt table total p = (p.seat.table_id ≡ table) × (p.total ≡ total)
 
 -- what a pass doesn't lose: its place at the table, its number, the greatest ceiling that it knows, its looks, a mark that it knows, and the
 -- faults that were met for it
-pub record Goes (p q : Pass) : Type 0 where
+pub record PassGoesOn (p q : Pass) : Type 0 where
   pub table : q.seat.table_id ≡ p.seat.table_id
   pub seat : q.seat.id ≡ p.seat.id
   pub total : q.total ≡ p.total
@@ -33,12 +33,12 @@ pub record Goes (p q : Pass) : Type 0 where
 
 -- a pass that drew nothing in between
 pub record Watched (p q : Pass) : Type 0 where
-  pub goes : Goes p q
+  pub goes : PassGoesOn p q
   pub kept : q.kept ≡ p.kept
   pub entries : entries_of q ≡ entries_of p
 
 -- the newest entry is of so many units from start on, up to the total at most, and no refusal is kept
-pub record HasDrawn (p : Pass) (start count : ℕ) (q : Pass) : Type 0 where
+pub record HasDrawnUnits (p : Pass) (start count : ℕ) (q : Pass) : Type 0 where
   pub was_free : p.kept ≡ None
   pub is_free : q.kept ≡ None
   pub entry_is : entries_of q ≡ entries_of p ++ entry (number_of p) start count ∷ []
@@ -47,7 +47,7 @@ pub record HasDrawn (p : Pass) (start count : ℕ) (q : Pass) : Type 0 where
 -- the units from start on are burnt: the journal failed, the pass looked since, the ceiling that it saw is below their end, and it
 -- knows the mark
 pub record IsBurnt (p : Pass) (start count : ℕ) (q : Pass) : Type 0 where
-  pub drawn : HasDrawn p start count q
+  pub drawn : HasDrawnUnits p start count q
   pub above : known_of q < start + count
   pub marked : mark_of q ≢ 0
   pub looked : looks_of p < looks_of q
@@ -55,7 +55,7 @@ pub record IsBurnt (p : Pass) (start count : ℕ) (q : Pass) : Type 0 where
 -- What a lease does: a span that ends where the pass knows that it may, or no units within the total, as a draw says; or a span
 -- that is burnt, where a fault was met for the pass in this call, or in another one before
 abbrev pub Leased : Pass → ℕ → Result Span LeaseFault → Pass → Type 0
-Leased p count (Ok s) q = HasDrawn p s.start count q × (s.end ≡ s.start + count) × (s.end ≤ known_of q)
+Leased p count (Ok s) q = HasDrawnUnits p s.start count q × (s.end ≡ s.start + count) × (s.end ≤ known_of q)
 Leased p count (Err (lease.Exhausted at n total)) q = Drew p count (Err (record { at = at; count = n; total = total })) q
 Leased p count (Err lease.Device) q = (met_of p < met_of q) × (start : ℕ) × IsBurnt p start count q
 Leased p count (Err (lease.Broken first)) q = (mark_of q ≡ first) × (start : ℕ) × IsBurnt p start count q
@@ -71,11 +71,11 @@ IsJournals (Err (lease.Broken first)) = Unit {0}
 -- a span that needs room, above that ceiling
 abbrev pub Tried : Pass → ℕ → Result Span TryFault → Pass → Type 0
 Tried p count (Ok s) q =
-    HasDrawn p s.start count q × (s.end ≡ s.start + count) × (s.end ≤ known_of q)
+    HasDrawnUnits p s.start count q × (s.end ≡ s.start + count) × (s.end ≤ known_of q)
     × (seen q ≡ after_look (after_draw (seen p) s.start count) (known_of q))
 Tried p count (Err (attempt.Exhausted at n total)) q = Drew p count (Err (record { at = at; count = n; total = total })) q
 Tried p count (Err (attempt.NeedsRoom end known)) q =
-    (start : ℕ) × HasDrawn p start count q × (end ≡ start + count) × (known < end)
+    (start : ℕ) × HasDrawnUnits p start count q × (end ≡ start + count) × (known < end)
     × (seen q ≡ after_look (after_draw (seen p) start count) known)
 
 -- What holds of all passes of a store and of its disk, which at first was as `start` says: what was drawn tiles, no pass knows a

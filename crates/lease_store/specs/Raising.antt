@@ -7,14 +7,14 @@ abbrev pub are_all_used : {D : Type 0} → TwinState D → Bool
 are_all_used journal = journal.used == journal.slots
 
 -- the bodies with this one: it follows the others, or stands alone where all slots were in use
-abbrev pub next_bodies : Bool → List (ℕ × ℕ) → ℕ × ℕ → List (ℕ × ℕ)
-next_bodies true bodies body = body ∷ []
-next_bodies false bodies body = bodies ++ body ∷ []
+abbrev pub raised_bodies : Bool → List (ℕ × ℕ) → ℕ × ℕ → List (ℕ × ℕ)
+raised_bodies true bodies body = body ∷ []
+raised_bodies false bodies body = bodies ++ body ∷ []
 
 -- and the generation of their area
-abbrev pub next_generation : Bool → ℕ → ℕ
-next_generation true generation = generation + 1
-next_generation false generation = generation
+abbrev pub raised_generation : Bool → ℕ → ℕ
+raised_generation true generation = generation + 1
+raised_generation false generation = generation
 
 -- the journal over this disk, once the ceiling is put into the next slot, or alone into the other area
 abbrev pub after_ceiling : {D : Type 0} → Bool → TwinState D → D → ℕ → TwinState D

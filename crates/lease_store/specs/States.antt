@@ -6,7 +6,7 @@ use Rattle.zk_port.specs.Disks.{DiskState}
 use Rattle.twin_journal.specs.States.{TwinState, state_code}
 use Rattle.lease_words.specs.declared.view.View.{View}
 use Rattle.lease_store.specs.Ceilings.{HasCeilingHeader, NeverFails}
-use Rattle.lease_store.specs.Desks.{IsDesk}
+use Rattle.lease_store.specs.Desks.{IsLeaseDesk}
 use Rattle.zk_model.specs.declared.limits.TheConstants.{MAX_STORE_UNITS}
 
 -- Parts of a store: its disk, the table of its words, the first unit of its era, the total of units, and how many passes there are
@@ -55,7 +55,7 @@ pub record AreParts {D : Type 0} (disk_state : D → DiskState) (total base : �
   pub base_is : base ≡ journal.last.0
   pub kept : (id : List ℕ)
       → ((bytes : List ℕ) → (disk_state journal.disk).content ≡ Some bytes → HasCeilingHeader id total bytes)
-      → IsDesk disk_state (disk_state journal.disk) id total base journal v
+      → IsLeaseDesk disk_state (disk_state journal.disk) id total base journal v
   pub whole : journal.fault ≡ 0
 
 -- what the desk keeps, of the store that has this table, total, number of passes, base, id, and disk at its start
@@ -65,5 +65,5 @@ pub record IsDeskOf {D : Type 0} (disk_state : D → DiskState) (table : TableId
   pub own : seat ≡ table
   pub named : name ≡ v.keeper
   pub made : v.made ≡ passes
-  pub kept : IsDesk disk_state start id total base journal v
+  pub kept : IsLeaseDesk disk_state start id total base journal v
   pub never : NeverFails disk_state → journal.fault ≡ 0

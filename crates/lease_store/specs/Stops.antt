@@ -3,7 +3,7 @@ use Rattle.std.specs.Prelude.{ℕ, ◌≤◌, List, [], ◌∷◌, Result}
 use Rattle.zk_port.specs.Disks.{DiskState}
 use Rattle.lease_journal.specs.declared.fault.JournalFault.{JournalFault}
 use Rattle.twin_journal.specs.States.{TwinState}
-use Rattle.lease_store.specs.Storing.{Leaves, MayFollow, Moved, Stores}
+use Rattle.lease_store.specs.Storing.{LeavesCeiling, CeilingMayFollow, Moved, Stores}
 
 -- the seat has its journal store a ceiling, which answers so and is then this one; it shows a ceiling; a pass is granted a span that
 -- ends here
@@ -17,7 +17,7 @@ module _ {D : Type 0} (state : D → DiskState) (total : ℕ) where
   abbrev pub MayDo : TwinState D → ℕ → List (Deed D) → Type 0
   MayDo journal shown [] = Unit {0}
   MayDo journal shown (asks ceiling answer now ∷ deeds) =
-      MayFollow total journal.last.0 ceiling × Moved state journal ceiling answer now × MayDo now shown deeds
+      CeilingMayFollow total journal.last.0 ceiling × Moved state journal ceiling answer now × MayDo now shown deeds
   MayDo journal shown (shows ceiling ∷ deeds) = (shown ≤ ceiling) × Stores state total journal ceiling × MayDo journal ceiling deeds
   MayDo journal shown (grants end ∷ deeds) = (end ≤ shown) × MayDo journal shown deeds
 
@@ -29,7 +29,7 @@ module _ {D : Type 0} (state : D → DiskState) (total : ℕ) where
   -- and so does each image that a crash leaves at a moment of a call that leads from the first to the second
   abbrev pub LeavesEach : TwinState D → TwinState D → List ℕ → Type 0
   LeavesEach journal now [] = Unit {0}
-  LeavesEach journal now (end ∷ ends) = Leaves state total journal now end × LeavesEach journal now ends
+  LeavesEach journal now (end ∷ ends) = LeavesCeiling state total journal now end × LeavesEach journal now ends
 
   -- before the first deed, between any two, after the last one, and at each moment of each, what was granted by then is stored
   abbrev pub IsSafe : TwinState D → List ℕ → List (Deed D) → Type 0

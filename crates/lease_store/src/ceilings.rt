@@ -16,18 +16,18 @@ pub struct CeilingJournal<B: Disk> {
 
 impl<B: Disk> Keeper for CeilingJournal<B> {
     ghost use Rattle.std.specs.Prelude.{◌≡◌, ◌≤◌};
-    ghost use Rattle.lease_store.specs.Storing.{Leaves, MayFollow, Moved, Stores};
+    ghost use Rattle.lease_store.specs.Storing.{LeavesCeiling, CeilingMayFollow, Moved, Stores};
 
     ghost label = { λ k. k.id };
 
     ghost stores = { λ k ceiling. Stores B.state k.total k.journal ceiling };
 
-    ghost may = { λ k ceiling. (1 ≤ k.journal.slots) × MayFollow k.total k.journal.last.0 ceiling };
+    ghost may = { λ k ceiling. (1 ≤ k.journal.slots) × CeilingMayFollow k.total k.journal.last.0 ceiling };
 
     ghost moves = { λ k ceiling result m. Moved B.state k.journal ceiling result m.journal
         × (m.total ≡ k.total) };
 
-    ghost leaves = { λ k m ceiling. Leaves B.state k.total k.journal m.journal ceiling };
+    ghost leaves = { λ k m ceiling. LeavesCeiling B.state k.total k.journal m.journal ceiling };
 
     fn name(&self) -> [u8; 32] {
         self.id

@@ -6,7 +6,7 @@ ghost use Rattle.lease_words.specs.Calls.{ceiling_of, drawn_on, known_drawn_of, 
 ghost use Rattle.lease_words.specs.Calls.{words_id, IsReceiptOf, IsWordOf};
 ghost use Rattle.zk_port.specs.Disks.{LeavesOnly};
 ghost use Rattle.lease_store.specs.Ceilings.{AreFound, FindsCeiling, NeverFails};
-ghost use Rattle.lease_store.specs.Desks.{CoverCause, IsDesk};
+ghost use Rattle.lease_store.specs.Desks.{CoverCause, IsLeaseDesk};
 ghost use Rattle.lease_store.specs.Raising.{after_ceiling, are_all_used};
 ghost use Rattle.lease_store.specs.States.{IsDeskOf};
 ghost use Rattle.zk_model.specs.declared.limits.TheConstants.{MAX_STORE_UNITS};
@@ -74,7 +74,7 @@ impl<B: Disk, N: LeaseName> Desk<B, N> {
 
     /// The seat, with the journal.
     pub fn into_seat(self) -> JournalSeat<CeilingJournal<B>>
-        ensures kept { IsDesk B.state N.start N.id N.total N.base result.keeper.journal result.seat.me.0 }
+        ensures kept { IsLeaseDesk B.state N.start N.id N.total N.base result.keeper.journal result.seat.me.0 }
         ensures own { result.seat.table_id ≡ N.table }
         ensures made { made_of result ≡ N.passes }
     {

@@ -2,7 +2,7 @@
 ghost use Rattle.std.specs.Prelude.{◌≡◌, ◌≢◌, ◌≤◌, IfOk};
 ghost use Rattle.lease_words.specs.Calls.{known_of, mark_of, seen, words_id};
 ghost use Rattle.lease_store.specs.Ceilings.{NeverFails};
-ghost use Rattle.lease_store.specs.Leases.{Goes, IsJournals, IsPassAt, Leased, Tried, Watched};
+ghost use Rattle.lease_store.specs.Leases.{PassGoesOn, IsJournals, IsPassAt, Leased, Tried, Watched};
 ghost use Rattle.lease_store.specs.Stops.{WasStored};
 ghost use Rattle.zk_model.specs.declared.limits.TheConstants.{MAX_UNITS};
 
@@ -29,7 +29,7 @@ impl<B: Disk, N: LeaseName> LeaseStore<B, N> {
         requires own { IsPassAt N.table N.total pass.old }
         requires count { (1 ≤ count) × (count ≤ MAX_UNITS) }
         ensures own { IsPassAt N.table N.total pass.new }
-        ensures goes { Goes pass.old pass.new }
+        ensures goes { PassGoesOn pass.old pass.new }
         ensures leased { Leased pass.old count result pass.new }
         ensures stored { IfOk result (λ span. WasStored B.state span.end) }
         ensures never { NeverFails B.state → IsJournals result → ⊥ }
@@ -109,7 +109,7 @@ impl<B: Disk, N: LeaseName> LeaseStore<B, N> {
         requires own { IsPassAt N.table N.total pass.old }
         requires count { (1 ≤ count) × (count ≤ MAX_UNITS) }
         ensures own { IsPassAt N.table N.total pass.new }
-        ensures goes { Goes pass.old pass.new }
+        ensures goes { PassGoesOn pass.old pass.new }
         ensures tried { Tried pass.old count result pass.new }
         ensures stored { IfOk result (λ span. WasStored B.state span.end) }
     {

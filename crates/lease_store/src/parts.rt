@@ -6,7 +6,7 @@ ghost use Rattle.zk_port.specs.Images.{Only};
 ghost use Rattle.lease_journal.specs.declared.fault.StartFault.TheVariants as start;
 ghost use Rattle.lease_words.specs.Calls.{base_of, words_id, AreFresh};
 ghost use Rattle.lease_store.specs.Ceilings.{CeilingStartCause, HasCeilingHeader, HasCeilingRoom, HasTidyCeilings, SaysCeiling};
-ghost use Rattle.lease_store.specs.Desks.{Begins, IsDesk};
+ghost use Rattle.lease_store.specs.Desks.{Begins, IsLeaseDesk};
 ghost use Rattle.lease_store.specs.Leases.{IsPassAt};
 ghost use Rattle.lease_store.specs.declared.fault.StoreFault.TheVariants as store;
 ghost use Rattle.zk_model.specs.declared.limits.TheConstants.{MAX_PASSES, MAX_STORE_UNITS};

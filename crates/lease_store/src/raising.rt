@@ -2,11 +2,11 @@
 ghost use Rattle.std.specs.Prelude.{◌≡◌, ◌+◌, ◌*◌, ◌^◌, ◌<◌, ◌≤◌, ℕ, List, IfSome, IfErr, OnOk, OnErr};
 ghost use Rattle.zk_port.specs.Disks.{LeavesOnly};
 ghost use Rattle.zk_port.specs.Images.{Only};
-ghost use Rattle.zk_model.specs.Twins.{SaysOldOrNew};
+ghost use Rattle.lease_journal.specs.Twins.{SaysOldOrNew};
 ghost use Rattle.lease_journal.specs.Keeps.{ChangesAt};
 ghost use Rattle.twin_journal.specs.States.{IsKept};
 ghost use Rattle.lease_store.specs.Desks.{CoverCause};
-ghost use Rattle.lease_store.specs.Raising.{after_ceiling, are_all_used, next_bodies, next_generation};
+ghost use Rattle.lease_store.specs.Raising.{after_ceiling, are_all_used, raised_bodies, raised_generation};
 
 use twin_journal::{JournalFault, OneBody, Twin};
 use zk_port::Disk;
@@ -23,17 +23,17 @@ pub fn store_ceiling<B: Disk>(journal: &mut Twin<B>, ceiling: u64) -> Result<(),
         → journal.old.generation + 1 < 2 ^ 64
         → LeavesOnly (B.state journal.old.disk) (B.state journal.new.disk)
         (SaysOldOrNew journal.old.begin journal.old.slots journal.old.generation bodies
-        (next_generation (are_all_used journal.old) journal.old.generation)
-        (next_bodies (are_all_used journal.old) bodies (ceiling, 0))) }
+        (raised_generation (are_all_used journal.old) journal.old.generation)
+        (raised_bodies (are_all_used journal.old) bodies (ceiling, 0))) }
     ensures read { (bytes : List ℕ) (bodies : List (ℕ × ℕ)) → IsKept B.state journal.old bodies bytes
         → journal.old.generation + 1 < 2 ^ 64 → IfSome (B.state journal.new.disk).content
         (SaysOldOrNew journal.old.begin journal.old.slots journal.old.generation bodies
-        (next_generation (are_all_used journal.old) journal.old.generation)
-        (next_bodies (are_all_used journal.old) bodies (ceiling, 0))) }
+        (raised_generation (are_all_used journal.old) journal.old.generation)
+        (raised_bodies (are_all_used journal.old) bodies (ceiling, 0))) }
     ensures recovered { OnOk result ((bytes : List ℕ) (bodies : List (ℕ × ℕ))
         → IsKept B.state journal.old bodies bytes → journal.old.generation + 1 < 2 ^ 64
         → IfSome (B.state journal.new.disk).content
-        (IsKept B.state journal.new (next_bodies (are_all_used journal.old) bodies (ceiling, 0)))) }
+        (IsKept B.state journal.new (raised_bodies (are_all_used journal.old) bodies (ceiling, 0)))) }
     ensures durable { OnOk result
         (Only (B.state journal.new.disk).content (B.state journal.new.disk).images) }
     ensures state { OnOk result (journal.new

@@ -7,8 +7,8 @@ use lib.ListN.{get_elem?}
 use Rattle.atomic_table.proofs.Lists.{at_set}
 use Rattle.atomic_table.specs.Table.{State, Me, step, carried_after, Allows, Splits, Joins}
 use Rattle.lease_core.specs.Machine.{ceiling_for}
-use Rattle.lease_words.specs.Views.{overshoots, units_drawn, IsPassView, first_view, spent_view, receipt_of, after_receipt, after_make, new_pass, after_join}
-use Rattle.lease_words.specs.Rule.{Fits, IsKept}
+use Rattle.lease_words.specs.Views.{entry_overshoots, units_drawn, IsPassView, first_view, spent_view, receipt_of, after_receipt, after_make, new_pass, after_join}
+use Rattle.lease_words.specs.Rule.{Fits, AreWordsKept}
 use Rattle.lease_words.specs.Steps.{Draws, Raises, Marks, FindsMark}
 use Rattle.lease_words.specs.Stored.{StoredRule, LooksStored}
 use Rattle.lease_words.specs.Asked.{AreDrawn, IsAskedFor, AskedRule}
@@ -73,7 +73,7 @@ module _ {K : Type 0} (label : K → List ℕ) (stores : K → ℕ → Type 0) w
         asked = subst (λ (x : ℕ × ℕ). IsAskedFor key.bounds x.0 x.1) (λ i. (sym zero_is i, sym stays i)) r.2;
       }
 
-  pub draw_asked : (key : Key) (slots id : ℕ) (me : Seen) (count : ℕ) → IsPassView me.0 → overshoots me.0.total me.0.entries ≡ 0 → 0 < count → count ≤ 4096
+  pub draw_asked : (key : Key) (slots id : ℕ) (me : Seen) (count : ℕ) → IsPassView me.0 → entry_overshoots me.0.total me.0.entries ≡ 0 → 0 < count → count ≤ 4096
       → Allows (AskedRule label stores key) slots id me 0 (λ n. (n + count) % 2 ^ 64) (Draws (step slots 0 count 0 none) me)
   draw_asked key slots id me count pass none_over some_count few =
       lifted key slots id me 0 (λ n. (n + count) % 2 ^ 64) (Draws (step slots 0 count 0 none) me)
@@ -180,7 +180,7 @@ module _ {K : Type 0} (label : K → List ℕ) (stores : K → ℕ → Type 0) w
       )
 
 -- the ceiling at the end is the base, or at most the one that all draws asked for
-pub most_asked : (b : Bounds) (next shown mark : ℕ) (views : List View) (seat : ℕ) (v : View) (ps : List Pass) → IsKept b next shown mark views → get_elem? views seat ≡ some v → v.journal ≡ true
+pub most_asked : (b : Bounds) (next shown mark : ℕ) (views : List View) (seat : ℕ) (v : View) (ps : List Pass) → AreWordsKept b next shown mark views → get_elem? views seat ≡ some v → v.journal ≡ true
     → v.reports ≡ flat_map (λ (p : Pass). (seen p).reports) ps → v.entries ≡ all_entries ps → v.made ≡ length ps → IsAskedFor b next shown
     → v.ceiling ≤ max b.base (ceiling_for v.total (b.base + units_drawn (all_entries ps)))
 most_asked b next shown mark views seat v ps k at is reports entries made asked =

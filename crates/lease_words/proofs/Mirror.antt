@@ -7,9 +7,9 @@ use Rattle.lease_core.specs.Spans.{span}
 use Rattle.lease_core.specs.Machine.{durable, is_passed}
 use Rattle.zk_model.specs.declared.Span.{Span}
 use Rattle.lease_core.specs.declared.event.Drawn.{Drawn}
-use Rattle.lease_words.specs.Views.{end_of, entry, report, overshoots, own, IsPassView, after_draw, after_look, after_raise}
+use Rattle.lease_words.specs.Views.{end_of, entry, report, entry_overshoots, own, IsPassView, after_draw, after_look, after_raise}
 use Rattle.lease_words.specs.Rule.{passes_made}
-use Rattle.lease_words.specs.Events.{span_of, drawn_by, StartIsEvent, DrawIsEvent, LookIsEvent, RaiseIsEvent}
+use Rattle.lease_words.specs.Events.{span_drawn, drawn_by, StartIsEvent, DrawIsEvent, LookIsEvent, RaiseIsEvent}
 use Rattle.lease_words.specs.declared.view.Entry.{Entry}
 use Rattle.lease_words.specs.declared.view.Report.{Report}
 use Rattle.lease_words.specs.declared.view.View.{View}
@@ -30,7 +30,7 @@ drawn_other pass other [] s n = ap (λ (b : Bool). cond b (s ∷ []) []) (ne_eqb
 drawn_other pass other (d ∷ ds) s n = ap (λ (x : List Span). cond (nat_eq d.pass pass) (d.span ∷ x) x) (drawn_other pass other ds s n)
 
 -- no span above the total
-none_above : (total : ℕ) (es : List Entry) → overshoots total es ≡ 0 → All (λ s. s.end ≤ total) (map span_of es)
+none_above : (total : ℕ) (es : List Entry) → entry_overshoots total es ≡ 0 → All (λ s. s.end ≤ total) (map span_drawn es)
 none_above total [] e k d l = absurd (omega arith)
 none_above total (x ∷ xs) e zero d l = low (nat_lt total (end_of x)) refl (omega (arith, sum_by-cons (λ (z : Entry). cond {A = ℕ} (nat_lt total (end_of z)) 1 0) x xs)) where
   low : (b : Bool) → nat_lt total (end_of x) ≡ b → cond {A = ℕ} (nat_lt total (end_of x)) 1 0 ≡ 0 → end_of x ≤ total
@@ -57,7 +57,7 @@ draw_is_event b next shown mark views seat v count m k at pass none some_count f
     let clear : is_passed m.total n m.drawn ≡ false = subst (λ (t : ℕ). is_passed t n m.drawn ≡ false) (sym mir.total)
     (not_passed b.total n m.drawn (subst (λ (x : List Span). All (λ s. s.end ≤ b.total) x) (sym (mir.drawn seat v at pass)) (none_above b.total v.entries none))) in
     let made : passes_made (set views seat w) ≡ passes_made views = (let s = total_set made_by views seat v w at in omega arith) in
-    let spans : span m.next (m.next + count) ≡ span_of (entry n next count) = ap (λ (x : ℕ). span x (x + count)) mir.next_is in (
+    let spans : span m.next (m.next + count) ≡ span_drawn (entry n next count) = ap (λ (x : ℕ). span x (x + count)) mir.next_is in (
       and_from m.up _ mir.up (and_from (nat_lt n m.passes) _ (lt-ltb n m.passes (omega arith)) (and_from (nat_le 1 count && nat_le count 4096) (not (is_passed m.total n m.drawn)) (and_from (nat_le 1 count) (nat_le count 4096) (le-leb 1 count some_count) (le-leb count 4096 few)) (ap not clear))),
       record {
         up = mir.up;
@@ -67,8 +67,8 @@ draw_is_event b next shown mark views seat v count m k at pass none some_count f
         next_is = ap (λ (x : ℕ). x + count) mir.next_is;
         shown_is = mir.shown_is;
         all_known = mir.all_known;
-        drawn = all_set (λ j u. IsPassView u → drawn_by (own u).number (m.drawn ++ record { pass = n; span = span m.next (m.next + count) } ∷ []) ≡ map span_of u.entries) views seat w
-            (λ p. drawn_same n m.drawn (span m.next (m.next + count)) ∙ ap (λ (x : List Span). x ++ span m.next (m.next + count) ∷ []) (mir.drawn seat v at pass) ∙ ap (λ (x : Span). map span_of v.entries ++ x ∷ []) spans ∙ sym (map-append span_of v.entries (entry n next count ∷ [])))
+        drawn = all_set (λ j u. IsPassView u → drawn_by (own u).number (m.drawn ++ record { pass = n; span = span m.next (m.next + count) } ∷ []) ≡ map span_drawn u.entries) views seat w
+            (λ p. drawn_same n m.drawn (span m.next (m.next + count)) ∙ ap (λ (x : List Span). x ++ span m.next (m.next + count) ∷ []) (mir.drawn seat v at pass) ∙ ap (λ (x : Span). map span_drawn v.entries ++ x ∷ []) spans ∙ sym (map-append span_drawn v.entries (entry n next count ∷ [])))
             (λ j u away g p. drawn_other (own u).number n m.drawn (span m.next (m.next + count)) (other_number b next shown mark views k seat j v u at g pass p (λ e. away (sym e))) ∙ mir.drawn j u g p);
         known = all_set (λ j u. IsPassView u → get_or m.known (own u).number 0 ≡ (own u).known) views seat w (λ p. mir.known seat v at pass) (λ j u away g p. mir.known j u g p);
       },
@@ -92,7 +92,7 @@ look_is_event b next shown mark views seat v m k at pass mir =
         next_is = mir.next_is;
         shown_is = mir.shown_is;
         all_known = length-set m.known n m.shown ∙ mir.all_known;
-        drawn = all_set (λ j u. IsPassView u → drawn_by (own u).number m.drawn ≡ map span_of u.entries) views seat w
+        drawn = all_set (λ j u. IsPassView u → drawn_by (own u).number m.drawn ≡ map span_drawn u.entries) views seat w
             (λ p. ap (λ (r : Report). drawn_by r.number m.drawn) now ∙ mir.drawn seat v at pass)
             (λ j u away g p. mir.drawn j u g p);
         known = all_set (λ j u. IsPassView u → get_or (set m.known n m.shown) (own u).number 0 ≡ (own u).known) views seat w
@@ -114,7 +114,7 @@ raise_is_event b next shown mark views seat v to m k at is stage ceiling mir =
         next_is = mir.next_is;
         shown_is = ceiling;
         all_known = mir.all_known;
-        drawn = all_set (λ j u. IsPassView u → drawn_by (own u).number m.drawn ≡ map span_of u.entries) views seat w (λ p. absurd (true≢false (sym is ∙ p.0))) (λ j u away g p. mir.drawn j u g p);
+        drawn = all_set (λ j u. IsPassView u → drawn_by (own u).number m.drawn ≡ map span_drawn u.entries) views seat w (λ p. absurd (true≢false (sym is ∙ p.0))) (λ j u away g p. mir.drawn j u g p);
         known = all_set (λ j u. IsPassView u → get_or m.known (own u).number 0 ≡ (own u).known) views seat w (λ p. absurd (true≢false (sym is ∙ p.0))) (λ j u away g p. mir.known j u g p);
       },
     )
@@ -130,7 +130,7 @@ start_is_event b views m down at total passes fresh = (
     next_is = at;
     shown_is = at;
     all_known = length-replicate m.passes (durable m);
-    drawn = λ seat v sits p. sym (ap (map span_of) (fresh seat v sits p).0);
+    drawn = λ seat v sits p. sym (ap (map span_drawn) (fresh seat v sits p).0);
     known = λ seat v sits p. get_or-replicate m.passes (own v).number (durable m) 0 (fresh seat v sits p).2 ∙ at ∙ sym (fresh seat v sits p).1;
   },
 )

@@ -6,7 +6,7 @@ use mathlib.Core.Option.{none, some}
 use lib.ListN.{get_elem?}
 use Rattle.atomic_table.specs.Table.{State, Me, step, Allows, Splits, Joins}
 use Rattle.lease_core.specs.Machine.{ceiling_for}
-use Rattle.lease_words.specs.Views.{overshoots, IsPassView, spent_view, receipt_of, after_receipt, after_telling, word_of, after_told, after_make, new_pass, after_join}
+use Rattle.lease_words.specs.Views.{entry_overshoots, IsPassView, spent_view, receipt_of, after_receipt, after_telling, word_of, after_told, after_make, new_pass, after_join}
 use Rattle.lease_words.specs.Rule.{Fits}
 use Rattle.lease_words.specs.Steps.{Draws, Raises, Marks, FindsMark}
 use Rattle.lease_words.specs.Stored.{LooksStored}
@@ -54,7 +54,7 @@ module _ {K : Type 0} (label : K → List ℕ) (stores : K → ℕ → Type 0) w
         h.4,
       )
 
-  pub draw_met : (key : Key) (slots id : ℕ) (me : Seen) (count : ℕ) → IsPassView me.0 → overshoots me.0.total me.0.entries ≡ 0 → 0 < count → count ≤ 4096
+  pub draw_met : (key : Key) (slots id : ℕ) (me : Seen) (count : ℕ) → IsPassView me.0 → entry_overshoots me.0.total me.0.entries ≡ 0 → 0 < count → count ≤ 4096
       → Allows (MetRule label stores key) slots id me 0 (λ n. (n + count) % 2 ^ 64) (Draws (step slots 0 count 0 none) me)
   draw_met key slots id me count pass none_over some_count few =
       lifted key slots id me 0 (λ n. (n + count) % 2 ^ 64) (Draws (step slots 0 count 0 none) me)

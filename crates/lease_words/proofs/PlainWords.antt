@@ -6,8 +6,8 @@ use Rattle.std.proofs.lemmas.List.Elements.{All-nil, All-append, All-contains}
 use Rattle.std.proofs.lemmas.Bool.{cases_lt, cases_eq, eq-eqb, lt-ltb, and_from}
 use mathlib.Core.Option.{some}
 use lib.ListN.{get_elem?}
-use Rattle.lease_words.specs.Views.{end_of, inside, times_drawn, overshoots_of, reports_of, own, IsPassView}
-use Rattle.lease_words.specs.Rule.{IsKept, passes_made}
+use Rattle.lease_words.specs.Views.{end_of, inside, times_drawn, entry_overshoots_of, reports_of, own, IsPassView}
+use Rattle.lease_words.specs.Rule.{AreWordsKept, passes_made}
 use Rattle.lease_words.specs.Leased.{entries_known, reports_known, Sits, RuleIsLeased}
 use Rattle.lease_words.specs.declared.view.Bounds.{Bounds}
 use Rattle.lease_words.specs.declared.view.Entry.{Entry}
@@ -42,19 +42,19 @@ own_reported v p =
     let h : reports_of (own v).number v.reports ≡ 0 + cond {A = ℕ} (nat_eq (own v).number (own v).number) 1 0 = ap (reports_of (own v).number) p.1 in
     let o = one_is (nat_eq (own v).number (own v).number) (eq-eqb (own v).number (own v).number refl) in omega arith
 
-pub same_seat : (b : Bounds) (next shown mark : ℕ) (views : List View) → IsKept b next shown mark views → (i j : ℕ) (u v : View) (number : ℕ) → Sits views i u → Sits views j v
+pub same_seat : (b : Bounds) (next shown mark : ℕ) (views : List View) → AreWordsKept b next shown mark views → (i j : ℕ) (u v : View) (number : ℕ) → Sits views i u → Sits views j v
     → 0 < reports_of number u.reports → 0 < reports_of number v.reports → i ≡ j
 same_seat b next shown mark views k i j u v number at at' h g = ⊎_elim (λ (x : j ≡ i). sym x)
     (λ (x : j ≡ i → ⊥). let t = total_two (named_by number) views i j u v at at' x in let n = k.numbered number in let o = at_most_one 0 (passes_made views) number in absurd (omega arith)) (cases_eq j i)
 
 -- two seats of passes have two numbers
-pub other_number : (b : Bounds) (next shown mark : ℕ) (views : List View) → IsKept b next shown mark views → (i j : ℕ) (u v : View) → Sits views i u → Sits views j v → IsPassView u → IsPassView v → i ≢ j
+pub other_number : (b : Bounds) (next shown mark : ℕ) (views : List View) → AreWordsKept b next shown mark views → (i j : ℕ) (u v : View) → Sits views i u → Sits views j v → IsPassView u → IsPassView v → i ≢ j
     → (own u).number ≢ (own v).number
 other_number b next shown mark views k i j u v at at' p q away same =
     away (same_seat b next shown mark views k i j u v (own u).number at at' (let o = own_reported u p in omega arith)
     (subst (λ (x : ℕ). 0 < reports_of x v.reports) (sym same) (let o = own_reported v q in omega arith)))
 
-named_made : (b : Bounds) (next shown mark : ℕ) (views : List View) → IsKept b next shown mark views → (seat : ℕ) (v : View) (number : ℕ) → Sits views seat v → 0 < reports_of number v.reports → number < passes_made views
+named_made : (b : Bounds) (next shown mark : ℕ) (views : List View) → AreWordsKept b next shown mark views → (seat : ℕ) (v : View) (number : ℕ) → Sits views seat v → 0 < reports_of number v.reports → number < passes_made views
 named_made b next shown mark views k seat v number at h =
     let t = total_at (named_by number) views seat v at in let n = k.numbered number in (within 0 (passes_made views) number (omega arith)).1
 
@@ -64,11 +64,11 @@ reported_at rs i d l =
     let a = get_or-le-sum_by (λ (r : Report). cond {A = ℕ} (nat_eq r.number n) 1 0) rs i d l in
     let o = one_is (nat_eq n n) (eq-eqb n n refl) in omega arith
 
-number_made : (b : Bounds) (next shown mark : ℕ) (views : List View) → IsKept b next shown mark views → (seat : ℕ) (v : View) → Sits views seat v → (i : ℕ) (d : Report) → i < length v.reports → (get_or v.reports i d).number < passes_made views
+number_made : (b : Bounds) (next shown mark : ℕ) (views : List View) → AreWordsKept b next shown mark views → (seat : ℕ) (v : View) → Sits views seat v → (i : ℕ) (d : Report) → i < length v.reports → (get_or v.reports i d).number < passes_made views
 number_made b next shown mark views k seat v at i d l = named_made b next shown mark views k seat v (get_or v.reports i d).number at (reported_at v.reports i d l)
 
 -- a pass's number is below those made
-pub pass_made : (b : Bounds) (next shown mark : ℕ) (views : List View) → IsKept b next shown mark views → (seat : ℕ) (v : View) → Sits views seat v → IsPassView v → (own v).number < passes_made views
+pub pass_made : (b : Bounds) (next shown mark : ℕ) (views : List View) → AreWordsKept b next shown mark views → (seat : ℕ) (v : View) → Sits views seat v → IsPassView v → (own v).number < passes_made views
 pass_made b next shown mark views k seat v at p = named_made b next shown mark views k seat v (own v).number at (let o = own_reported v p in omega arith)
 
 pub rule_is_leased : RuleIsLeased
@@ -118,6 +118,6 @@ rule_is_leased b next shown mark views k =
           (within 0 (passes_made views) (get_or u.entries i d).pass (omega arith)).1);
       marks = all_flat (λ (v : View). v.reports) (λ r. (r.mark ≡ 0) ⊎ (r.mark ≡ mark)) views (λ j u g. (k.each j u g).marked);
     } where
-      over_le : (number : ℕ) (vs : List View) → ((j : ℕ) (u : View) → get_elem? vs j ≡ some u → overshoots_of b.total number u.entries ≤ reports_of number u.reports) → sum_by (λ (u : View). overshoots_of b.total number u.entries) vs ≤ sum_by (named_by number) vs
+      over_le : (number : ℕ) (vs : List View) → ((j : ℕ) (u : View) → get_elem? vs j ≡ some u → entry_overshoots_of b.total number u.entries ≤ reports_of number u.reports) → sum_by (λ (u : View). entry_overshoots_of b.total number u.entries) vs ≤ sum_by (named_by number) vs
       over_le number [] h = omega arith
-      over_le number (x ∷ xs) h = let a = h 0 x refl in let i = over_le number xs (λ j u e. h (suc j) u e) in omega (arith, sum_by-cons (λ (u : View). overshoots_of b.total number u.entries) x xs, sum_by-cons (named_by number) x xs)
+      over_le number (x ∷ xs) h = let a = h 0 x refl in let i = over_le number xs (λ j u e. h (suc j) u e) in omega (arith, sum_by-cons (λ (u : View). entry_overshoots_of b.total number u.entries) x xs, sum_by-cons (named_by number) x xs)

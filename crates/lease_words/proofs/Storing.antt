@@ -19,7 +19,7 @@ use Rattle.lease_core.proofs.Reached.{reached_inv, is_consistent, reached_goes_o
 use Rattle.lease_words.specs.Views.{end_of, own, IsPassView}
 use Rattle.lease_words.specs.Rule.{Fits, passes_made}
 use Rattle.lease_words.specs.Leased.{Sits}
-use Rattle.lease_words.specs.Events.{span_of, drawn_by, Mirrors}
+use Rattle.lease_words.specs.Events.{span_drawn, drawn_by, Mirrors}
 use Rattle.lease_words.specs.Storing.{IsUnspent, IsNoSpendOf, DrawIsUnspent, StaysUnspent, SpendIsEvent, PutStays, PutEnds, BodyIsEvent, BodySyncIsEvent, GateIsEvent, GateSyncIsEvent, CrashIsEvent}
 use Rattle.lease_words.specs.declared.view.Bounds.{Bounds}
 use Rattle.lease_words.specs.declared.view.Entry.{Entry}
@@ -65,11 +65,11 @@ last_pushed (x ∷ xs) s = ap (λ (o : Option Span). or_else o (Some x)) (last_p
 
 -- the machine's last span of the pass is that of its newest entry
 newest_last : (b : Bounds) (next shown : ℕ) (views : List View) (seat : ℕ) (v : View) (e : Entry) (m : Machine) → Sits views seat v → IsPassView v → Mirrors b next shown views m → IsUnspent m v.entries e
-    → last_drawn (own v).number m.drawn ≡ Some (span_of e)
+    → last_drawn (own v).number m.drawn ≡ Some (span_drawn e)
 newest_last b next shown views seat v e m at pass mir u =
     last_by (own v).number m.drawn
-    ∙ ap last_span (mir.drawn seat v at pass ∙ ap (map span_of) u.newest ∙ map-append span_of u.before (e ∷ []))
-    ∙ last_pushed (map span_of u.before) (span_of e)
+    ∙ ap last_span (mir.drawn seat v at pass ∙ ap (map span_drawn) u.newest ∙ map-append span_drawn u.before (e ∷ []))
+    ∙ last_pushed (map span_drawn u.before) (span_drawn e)
 
 -- what is_open wants
 pub opened : (o : Option Span) (s : Span) (spent : List Span) (test : Span → Bool) → o ≡ Some s → has_span s spent ≡ false → test s ≡ true → is_open o spent test ≡ true
@@ -87,9 +87,9 @@ spend_is_event b next shown mark views seat v e m k at pass u low mir =
     let fits : Fits b shown mark seat v = k.each seat v at in
     let one : length v.reports ≡ 1 = ap length pass.1 in
     let seen : (own v).known ≤ shown = got v.reports (own v) pass.1 (fits.known 0 (own v) (omega arith)).1 in (
-      and_from m.up _ mir.up (and_from (nat_lt n m.passes) _ (lt-ltb n m.passes (omega arith)) (opened (last_drawn n m.drawn) (span_of e) m.spent (λ t. same_span t (span_of e) && nat_le (end_of e) m.shown)
-          (newest_last b next shown views seat v e m at pass mir u) u.unspent (and_from (same_span (span_of e) (span_of e)) (nat_le (end_of e) m.shown) (same_self (span_of e)) (le-leb (end_of e) m.shown (omega arith))))),
-      still b next shown views m (after m (Spend n (span_of e))) mir refl refl refl refl refl refl refl refl,
+      and_from m.up _ mir.up (and_from (nat_lt n m.passes) _ (lt-ltb n m.passes (omega arith)) (opened (last_drawn n m.drawn) (span_drawn e) m.spent (λ t. same_span t (span_drawn e) && nat_le (end_of e) m.shown)
+          (newest_last b next shown views seat v e m at pass mir u) u.unspent (and_from (same_span (span_drawn e) (span_drawn e)) (nat_le (end_of e) m.shown) (same_self (span_drawn e)) (le-leb (end_of e) m.shown (omega arith))))),
+      still b next shown views m (after m (Spend n (span_drawn e))) mir refl refl refl refl refl refl refl refl,
     ) where
       got : (rs : List Report) (x : Report) → rs ≡ x ∷ [] → (get_or rs 0 x).known ≤ shown → x.known ≤ shown
       got rs x e l = subst (λ (r : Report). r.known ≤ shown) (ap (λ (z : List Report). get_or z 0 x) e) l
@@ -175,7 +175,7 @@ pub stays_unspent : StaysUnspent
 stays_unspent b next shown views seat v e event m r at pass mir u ok n = record {
   before = u.before;
   newest = u.newest;
-  unspent = stays (own v).number (span_of e) m event r (newest_last b next shown views seat v e m at pass mir u) u.unspent ok n;
+  unspent = stays (own v).number (span_drawn e) m event r (newest_last b next shown views seat v e m at pass mir u) u.unspent ok n;
 }
 
 -- ---- puts
@@ -188,7 +188,7 @@ body_is_event b next shown mark views seat v e m k at pass u high low none mir =
     let see = mir.shown_is in
     let all = mir.total in
     let last = newest_last b next shown views seat v e m at pass mir u in (
-      and_from m.up _ mir.up (and_from (nat_lt n m.passes) _ (lt-ltb n m.passes (omega arith)) (and_from (nat_eq m.stage 0) _ (eq-eqb m.stage 0 none) (opened (last_drawn n m.drawn) (span_of e) m.spent (λ s. nat_lt m.shown s.end && nat_le s.end m.total)
+      and_from m.up _ mir.up (and_from (nat_lt n m.passes) _ (lt-ltb n m.passes (omega arith)) (and_from (nat_eq m.stage 0) _ (eq-eqb m.stage 0 none) (opened (last_drawn n m.drawn) (span_drawn e) m.spent (λ s. nat_lt m.shown s.end && nat_le s.end m.total)
           last u.unspent (and_from (nat_lt m.shown (end_of e)) (nat_le (end_of e) m.total) (lt-ltb m.shown (end_of e) (omega arith)) (le-leb (end_of e) m.total (omega arith)))))),
       still b next shown views m (after m (Put (Body n))) mir refl refl refl refl refl refl refl refl,
       record { moments_are = refl; ceiling_is = ap (λ (o : Option Span). ceiling_for m.total (last_end o)) last ∙ ap (λ (x : ℕ). ceiling_for x (end_of e)) all; slots_are = refl },

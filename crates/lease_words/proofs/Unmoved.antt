@@ -11,7 +11,7 @@ use Rattle.lease_core.specs.Machine.{Machine}
 use Rattle.lease_words.specs.Views.{report, reports_of, own, spent_view, IsPassView, after_marked, after_mark, after_join}
 use Rattle.lease_words.specs.Rule.{Fits, passes_made}
 use Rattle.lease_words.specs.Leased.{Sits}
-use Rattle.lease_words.specs.Events.{span_of, drawn_by, HasDrawn, HasKnown, Mirrors, HasTakenIn, MarkIsNoEvent, MarkedIsNoEvent, JoinIsNoEvent}
+use Rattle.lease_words.specs.Events.{span_drawn, drawn_by, HasDrawn, HasKnown, Mirrors, HasTakenIn, MarkIsNoEvent, MarkedIsNoEvent, JoinIsNoEvent}
 use Rattle.lease_words.specs.declared.view.Bounds.{Bounds}
 use Rattle.lease_words.specs.declared.view.Entry.{Entry}
 use Rattle.lease_words.specs.declared.view.Report.{Report}
@@ -106,7 +106,7 @@ join_is_no_event b next shown mark views seat other v w m k at is at' pass mir =
 
   of_pass : HasTakenIn m (w.entries ++ v.entries) (own w)
   of_pass = (
-    mir.drawn other w at' pass ∙ ap (map span_of) (sym (filter-append (λ e. nat_eq e.pass n) w.entries v.entries
+    mir.drawn other w at' pass ∙ ap (map span_drawn) (sym (filter-append (λ e. nat_eq e.pass n) w.entries v.entries
         ∙ ap (λ (xs : List Entry). xs ++ filter (λ e. nat_eq e.pass n) v.entries) (keep_all n w.entries theirs_of)
         ∙ ap (λ (xs : List Entry). w.entries ++ xs) (keep_none n v.entries (λ i d l. apart (get_or v.entries i d).pass (mine.named i d l)))
         ∙ append-nil w.entries)),
@@ -115,7 +115,7 @@ join_is_no_event b next shown mark views seat other v w m k at is at' pass mir =
 
   of_earlier : (r : Report) → r.number ≢ n → HasTakenIn m v.entries r → HasTakenIn m (w.entries ++ v.entries) r
   of_earlier r away h = (
-    h.0 ∙ ap (map span_of) (sym (filter-append (λ e. nat_eq e.pass r.number) w.entries v.entries
+    h.0 ∙ ap (map span_drawn) (sym (filter-append (λ e. nat_eq e.pass r.number) w.entries v.entries
         ∙ ap (λ (xs : List Entry). xs ++ filter (λ e. nat_eq e.pass r.number) v.entries) (keep_none r.number w.entries (λ i d l e. away (sym e ∙ theirs_of i d l))))),
     h.1,
   )

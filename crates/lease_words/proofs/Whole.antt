@@ -8,8 +8,8 @@ use Rattle.std.proofs.lemmas.Bool.Decides.{nat_tests}
 use mathlib.Core.Option.{some}
 use lib.ListN.{get_elem?}
 use Rattle.lease_words.specs.Views.{end_of, inside, times_drawn, units_drawn, reports_of, own, nobody}
-use Rattle.lease_words.specs.Rule.{Fits, IsKept, passes_made}
-use Rattle.lease_words.specs.Calls.{greatest_end, IsApart, AreGathered, seen, all_entries, mark_of}
+use Rattle.lease_words.specs.Rule.{Fits, AreWordsKept, passes_made}
+use Rattle.lease_words.specs.Calls.{greatest_end, AreEntriesApart, AreGathered, seen, all_entries, mark_of}
 use Rattle.lease_words.specs.declared.view.Bounds.{Bounds}
 use Rattle.lease_words.specs.declared.view.Entry.{Entry}
 use Rattle.lease_words.specs.declared.view.Report.{Report}
@@ -20,7 +20,7 @@ use Rattle.lease_words.proofs.Keeps.{drawn_at, units_of, report_count, made_by}
 
 -- ---- one seat has all
 
-pub others_unmade : (b : Bounds) (next shown mark : ℕ) (views : List View) (seat : ℕ) (v : View) → IsKept b next shown mark views → get_elem? views seat ≡ some v → v.journal ≡ true
+pub others_unmade : (b : Bounds) (next shown mark : ℕ) (views : List View) (seat : ℕ) (v : View) → AreWordsKept b next shown mark views → get_elem? views seat ≡ some v → v.journal ≡ true
     → passes_made views ≡ v.made
 others_unmade b next shown mark views seat v k at is =
     let z = (k.each seat v at).first is in
@@ -31,7 +31,7 @@ nothing_reported [] [] z h = refl
 nothing_reported [] (e ∷ es) z h = let a = h 0 e (omega arith) in absurd (omega arith)
 nothing_reported (r ∷ rs) es z h = absurd (omega arith)
 
-pub others_empty : (b : Bounds) (next shown mark : ℕ) (views : List View) (seat : ℕ) (v : View) → IsKept b next shown mark views → get_elem? views seat ≡ some v → v.journal ≡ true
+pub others_empty : (b : Bounds) (next shown mark : ℕ) (views : List View) (seat : ℕ) (v : View) → AreWordsKept b next shown mark views → get_elem? views seat ≡ some v → v.journal ≡ true
     → length v.reports ≡ v.made → (j : ℕ) (u : View) → j ≢ seat → get_elem? views j ≡ some u → u.entries ≡ []
 others_empty b next shown mark views seat v k at is all j u other g =
     let made = others_unmade b next shown mark views seat v k at is in
@@ -39,12 +39,12 @@ others_empty b next shown mark views seat v k at is all j u other g =
     let sum = k.reported in
     nothing_reported u.reports u.entries (omega arith) (k.each j u g).named
 
-pub tiles_whole : (b : Bounds) (next shown mark : ℕ) (views : List View) (seat : ℕ) (v : View) → IsKept b next shown mark views → get_elem? views seat ≡ some v → v.journal ≡ true
+pub tiles_whole : (b : Bounds) (next shown mark : ℕ) (views : List View) (seat : ℕ) (v : View) → AreWordsKept b next shown mark views → get_elem? views seat ≡ some v → v.journal ≡ true
     → length v.reports ≡ v.made → (unit : ℕ) → times_drawn unit v.entries ≡ inside b.base next unit
 tiles_whole b next shown mark views seat v k at is all unit =
     sym (total_only (drawn_at unit) views seat v at (λ j u other g. ap (times_drawn unit) (others_empty b next shown mark views seat v k at is all j u other g))) ∙ k.tiled unit
 
-pub counts_whole : (b : Bounds) (next shown mark : ℕ) (views : List View) (seat : ℕ) (v : View) → IsKept b next shown mark views → get_elem? views seat ≡ some v → v.journal ≡ true
+pub counts_whole : (b : Bounds) (next shown mark : ℕ) (views : List View) (seat : ℕ) (v : View) → AreWordsKept b next shown mark views → get_elem? views seat ≡ some v → v.journal ≡ true
     → length v.reports ≡ v.made → b.base + units_drawn v.entries ≡ next
 counts_whole b next shown mark views seat v k at is all =
     let s = total_only units_of views seat v at (λ j u other g. ap units_drawn (others_empty b next shown mark views seat v k at is all j u other g)) in let t = k.counted in omega arith
@@ -78,7 +78,7 @@ module _ (base next : ℕ) (es : List Entry) (tiled : (unit : ℕ) → times_dra
       let u = within base next e.start (omega arith) in let w = within base next (end_of e - 1) (omega arith) in
       (u.0, omega arith)
 
-  pub are_apart : AllPairs IsApart es
+  pub are_apart : AllPairs AreEntriesApart es
   are_apart i j d h l = ⊎_elim inl
       (λ (x : (get_or es j d).start < end_of (get_or es i d)). ⊎_elim inr
       (λ (y : (get_or es i d).start < end_of (get_or es j d)).
@@ -132,7 +132,7 @@ each_report P (p ∷ ps) h (suc k) d l =
     each_report P ps (λ i e m. subst P (get_or-append-add (seen p).reports rest i e) (h (length (seen p).reports + i) e (omega (arith, length-append (seen p).reports rest)))) k d (omega arith)
 
 -- all of it
-pub gathered : (b : Bounds) (next shown mark : ℕ) (views : List View) (seat : ℕ) (v : View) (ps : List Pass) → IsKept b next shown mark views → get_elem? views seat ≡ some v → v.journal ≡ true
+pub gathered : (b : Bounds) (next shown mark : ℕ) (views : List View) (seat : ℕ) (v : View) (ps : List Pass) → AreWordsKept b next shown mark views → get_elem? views seat ≡ some v → v.journal ≡ true
     → v.reports ≡ flat_map (λ (p : Pass). (seen p).reports) ps → v.entries ≡ all_entries ps → v.made ≡ length ps → AreGathered b.base v.ceiling v.own_mark ps
 gathered b next shown mark views seat v ps k at is reports entries made =
     let fits : Fits b shown mark seat v = k.each seat v at in

@@ -39,8 +39,8 @@ abbrev pub met_of : Pass → ℕ
 met_of p = (seen p).met
 
 -- how far it knows that units were drawn
-abbrev pub drawn_of : Pass → ℕ
-drawn_of p = (seen p).drawn
+abbrev pub drawn_by_pass : Pass → ℕ
+drawn_by_pass p = (seen p).drawn
 
 -- and how far a receipt says so
 abbrev pub drawn_on : Receipt → ℕ
@@ -72,8 +72,8 @@ abbrev pub known_drawn_of : {K : Type 0} → JournalSeat K → ℕ
 known_drawn_of j = (journal_view j).drawn
 
 -- the highest ceiling that was asked for by the draws that the journal's seat knows of
-abbrev pub asked_of : {K : Type 0} → JournalSeat K → ℕ
-asked_of j = ceiling_for (limit_of j) (known_drawn_of j)
+abbrev pub asked_by_seat : {K : Type 0} → JournalSeat K → ℕ
+asked_by_seat j = ceiling_for (limit_of j) (known_drawn_of j)
 
 -- how many faults it met, and gave no word of
 abbrev pub own_met_of : {K : Type 0} → JournalSeat K → ℕ
@@ -166,14 +166,14 @@ greatest_end base [] = base
 greatest_end base (e ∷ es) = max (end_of e) (greatest_end base es)
 
 -- one ends where the other starts, or before
-abbrev pub IsApart : Entry → Entry → Type 0
-IsApart d e = (end_of d ≤ e.start) ⊎ (end_of e ≤ d.start)
+abbrev pub AreEntriesApart : Entry → Entry → Type 0
+AreEntriesApart d e = (end_of d ≤ e.start) ⊎ (end_of e ≤ d.start)
 
 -- What holds of all passes of a table together, whose journal's seat knows this ceiling and this mark: no two entries
 -- have a unit in common, refused ones among them; each starts at or above the base; their counts add up to the
 -- greatest end less the base; no pass knows a greater ceiling, or a mark other than 0 and this one
 pub record AreGathered (base ceiling mark : ℕ) (passes : List Pass) : Type 0 where
-  pub apart : AllPairs IsApart (all_entries passes)
+  pub apart : AllPairs AreEntriesApart (all_entries passes)
   pub above : All (λ e. base ≤ e.start) (all_entries passes)
   pub tile : base + units_drawn (all_entries passes) ≡ greatest_end base (all_entries passes)
   pub known : All (λ p. known_of p ≤ ceiling) passes

@@ -5,8 +5,8 @@ use Rattle.lease_core.specs.Machine.{Machine, durable, is_possible, after}
 use Rattle.zk_model.specs.declared.Span.{Span}
 use Rattle.lease_core.specs.declared.event.Drawn.{Drawn}
 use Rattle.lease_core.specs.declared.event.Event.TheVariants.{Begin, Draw, Look, Raise}
-use Rattle.lease_words.specs.Views.{end_of, overshoots, own, spent_view, IsPassView, after_draw, after_look, after_marked, after_raise, after_mark, after_join}
-use Rattle.lease_words.specs.Rule.{IsKept, passes_made}
+use Rattle.lease_words.specs.Views.{end_of, entry_overshoots, own, spent_view, IsPassView, after_draw, after_look, after_marked, after_raise, after_mark, after_join}
+use Rattle.lease_words.specs.Rule.{AreWordsKept, passes_made}
 use Rattle.lease_words.specs.Leased.{Sits}
 use Rattle.lease_words.specs.declared.view.Bounds.{Bounds}
 use Rattle.lease_words.specs.declared.view.Entry.{Entry}
@@ -15,8 +15,8 @@ use Rattle.lease_words.specs.declared.view.View.{View}
 use Rattle.zk_model.specs.declared.limits.TheConstants.{MAX_UNITS}
 
 -- the span of a draw
-abbrev pub span_of : Entry → Span
-span_of e = span e.start (end_of e)
+abbrev pub span_drawn : Entry → Span
+span_drawn e = span e.start (end_of e)
 
 -- the spans that a pass drew, in order
 abbrev pub drawn_by : ℕ → List Drawn → List Span
@@ -25,7 +25,7 @@ drawn_by pass (d ∷ ds) = cond (nat_eq d.pass pass) (d.span ∷ drawn_by pass d
 
 -- the machine drew for the pass what the pass knows
 abbrev pub HasDrawn : Machine → View → Type 0
-HasDrawn m v = drawn_by (own v).number m.drawn ≡ map span_of v.entries
+HasDrawn m v = drawn_by (own v).number m.drawn ≡ map span_drawn v.entries
 
 -- the ceiling that the machine has for the pass is the one that the pass knows
 abbrev pub HasKnown : Machine → View → Type 0
@@ -63,10 +63,10 @@ abbrev pub DrawIsEvent : Type 0
 DrawIsEvent =
     (b : Bounds) (next shown mark : ℕ) (views : List View)
     → (seat : ℕ) (v : View) (count : ℕ) (m : Machine)
-    → IsKept b next shown mark views
+    → AreWordsKept b next shown mark views
     → Sits views seat v
     → IsPassView v
-    → overshoots b.total v.entries ≡ 0
+    → entry_overshoots b.total v.entries ≡ 0
     → 0 < count
     → count ≤ MAX_UNITS
     → Mirrors b next shown views m
@@ -79,7 +79,7 @@ DrawIsEvent =
 abbrev pub LookIsEvent : Type 0
 LookIsEvent =
     (b : Bounds) (next shown mark : ℕ) (views : List View) (seat : ℕ) (v : View) (m : Machine)
-    → IsKept b next shown mark views
+    → AreWordsKept b next shown mark views
     → Sits views seat v
     → IsPassView v
     → Mirrors b next shown views m
@@ -92,7 +92,7 @@ LookIsEvent =
 abbrev pub RaiseIsEvent : Type 0
 RaiseIsEvent =
     (b : Bounds) (next shown mark : ℕ) (views : List View) (seat : ℕ) (v : View) (to : ℕ) (m : Machine)
-    → IsKept b next shown mark views
+    → AreWordsKept b next shown mark views
     → Sits views seat v
     → v.journal ≡ true
     → m.stage ≡ 4
@@ -106,7 +106,7 @@ RaiseIsEvent =
 -- what the machine holds of a pass that was taken in is its report, and its entries among these
 abbrev pub HasTakenIn : Machine → List Entry → Report → Type 0
 HasTakenIn m entries r =
-    (drawn_by r.number m.drawn ≡ map span_of (filter (λ e. nat_eq e.pass r.number) entries))
+    (drawn_by r.number m.drawn ≡ map span_drawn (filter (λ e. nat_eq e.pass r.number) entries))
     × (slice_index m.known r.number ≡ r.known)
 
 -- what the machine holds of each pass that the journal's seat took in is what that pass knew
@@ -137,7 +137,7 @@ abbrev pub JoinIsNoEvent : Type 0
 JoinIsNoEvent =
     (b : Bounds) (next shown mark : ℕ) (views : List View)
     → (seat other : ℕ) (v w : View) (m : Machine)
-    → IsKept b next shown mark views
+    → AreWordsKept b next shown mark views
     → Sits views seat v
     → v.journal ≡ true
     → Sits views other w

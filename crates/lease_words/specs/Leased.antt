@@ -3,9 +3,9 @@ use Rattle.std.specs.Prelude.{◌≡◌, ◌≢◌, ℕ, ◌+◌, ◌*◌, ◌<�
 use Rattle.std.specs.List.{Contains}
 use mathlib.Core.Option.{some}
 use lib.ListN.{get_elem?}
-use Rattle.lease_words.specs.Views.{end_of, units_drawn, overshoots, own, IsPassView}
-use Rattle.lease_words.specs.Rule.{IsKept, passes_made}
-use Rattle.lease_words.specs.Calls.{IsApart}
+use Rattle.lease_words.specs.Views.{end_of, units_drawn, entry_overshoots, own, IsPassView}
+use Rattle.lease_words.specs.Rule.{AreWordsKept, passes_made}
+use Rattle.lease_words.specs.Calls.{AreEntriesApart}
 use Rattle.lease_words.specs.declared.view.Bounds.{Bounds}
 use Rattle.lease_words.specs.declared.view.Entry.{Entry}
 use Rattle.lease_words.specs.declared.view.Report.{Report}
@@ -46,13 +46,13 @@ AreOfTwoPasses total d e = total < end_of d → total < end_of e → d.pass ≢ 
 -- what the three words and all seats are to each other, between any two steps
 pub record IsLeased (b : Bounds) (next shown mark : ℕ) (views : List View) : Type 0 where
   -- entries have no unit in common, start at or above the base, end at or below next, and count what was drawn
-  pub apart : AllPairs IsApart (entries_known views)
+  pub apart : AllPairs AreEntriesApart (entries_known views)
   pub above : All (λ e. b.base ≤ e.start) (entries_known views)
   pub below : All (λ e. end_of e ≤ next) (entries_known views)
   pub counts : b.base + units_drawn (entries_known views) ≡ next
   -- entries that end above the total are of different passes, and bound what was drawn beyond it
   pub once : AllPairs (AreOfTwoPasses b.total) (entries_known views)
-  pub bound : next ≤ b.total + MAX_UNITS * overshoots b.total (entries_known views)
+  pub bound : next ≤ b.total + MAX_UNITS * entry_overshoots b.total (entries_known views)
   -- there is one journal's seat, and it knows the ceiling and the mark
   pub journal : (seat : ℕ) × (v : View) × Sits views seat v × IsJournalAt shown mark v
   pub alone : (i j : ℕ) → IsJournalSeat views i → IsJournalSeat views j → i ≡ j
@@ -73,5 +73,5 @@ pub record IsLeased (b : Bounds) (next shown mark : ℕ) (views : List View) : T
 abbrev pub RuleIsLeased : Type 0
 RuleIsLeased =
     (b : Bounds) (next shown mark : ℕ) (views : List View)
-    → IsKept b next shown mark views
+    → AreWordsKept b next shown mark views
     → IsLeased b next shown mark views

@@ -6,7 +6,7 @@ use Rattle.std.specs.List.{sum_by}
 use mathlib.Core.Option.{some}
 use lib.ListN.{get_elem?}
 use Rattle.atomic_table.specs.Table.{State}
-use Rattle.lease_words.specs.Views.{inside, times_drawn, units_drawn, overshoots, overshoots_of, reports_of}
+use Rattle.lease_words.specs.Views.{inside, times_drawn, units_drawn, entry_overshoots, entry_overshoots_of, reports_of}
 use Rattle.lease_words.specs.declared.view.Bounds.{Bounds}
 use Rattle.lease_words.specs.declared.view.View.{View}
 use Rattle.zk_model.specs.declared.limits.TheConstants.{MAX_PASSES, MAX_STORE_UNITS, MAX_UNITS}
@@ -27,8 +27,8 @@ pub record Fits (b : Bounds) (shown mark seat : ℕ) (v : View) : Type 0 where
   pub named : All (λ e. 0 < reports_of e.pass v.reports) v.entries
   pub sized : All (λ e. (0 < e.count) × (e.count ≤ MAX_UNITS)) v.entries
   -- a pass has at most one entry that ends above the total
-  pub once : (number : ℕ) → overshoots_of b.total number v.entries ≤ reports_of number v.reports
-  pub few : overshoots b.total v.entries ≤ length v.reports
+  pub once : (number : ℕ) → entry_overshoots_of b.total number v.entries ≤ reports_of number v.reports
+  pub few : entry_overshoots b.total v.entries ≤ length v.reports
 
 -- how many passes were made
 abbrev pub passes_made : List View → ℕ
@@ -39,12 +39,12 @@ abbrev pub all_reports_of : ℕ → List View → ℕ
 all_reports_of number views = sum_by (λ v. reports_of number v.reports) views
 
 -- what the three words and all seats keep
-pub record IsKept (b : Bounds) (next shown mark : ℕ) (views : List View) : Type 0 where
+pub record AreWordsKept (b : Bounds) (next shown mark : ℕ) (views : List View) : Type 0 where
   -- each unit from base up to next was drawn once, and no other
   pub tiled : (unit : ℕ) → sum_by (λ v. times_drawn unit v.entries) views ≡ inside b.base next unit
   pub counted : b.base + sum_by (λ v. units_drawn v.entries) views ≡ next
   -- what was drawn beyond the total
-  pub bounded : next ≤ b.total + MAX_UNITS * sum_by (λ v. overshoots b.total v.entries) views
+  pub bounded : next ≤ b.total + MAX_UNITS * sum_by (λ v. entry_overshoots b.total v.entries) views
   -- each number below the passes made has one report
   pub numbered : (number : ℕ) → all_reports_of number views ≡ inside 0 (passes_made views) number
   pub reported : sum_by (λ v. length v.reports) views ≡ passes_made views
@@ -58,4 +58,4 @@ pub record IsKept (b : Bounds) (next shown mark : ℕ) (views : List View) : Typ
 abbrev pub LeaseRule : Bounds → State (Unit {0}) View → Type 0
 LeaseRule b s =
     (length s.words ≡ 3)
-    × IsKept b (slice_index s.words 0) (slice_index s.words 1) (slice_index s.words 2) s.views
+    × AreWordsKept b (slice_index s.words 0) (slice_index s.words 1) (slice_index s.words 2) s.views

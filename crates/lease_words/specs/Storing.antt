@@ -8,9 +8,9 @@ use Rattle.lease_core.specs.declared.event.Moment.TheVariants.{Body, BodySync, G
 use Rattle.lease_core.specs.declared.event.Event.{Event}
 use Rattle.lease_core.specs.declared.event.Event.TheVariants.{Begin, Draw, Look, Put, Raise, Spend, Claim, Crash}
 use Rattle.lease_words.specs.Views.{entry, end_of, own, IsPassView, after_draw}
-use Rattle.lease_words.specs.Rule.{IsKept}
+use Rattle.lease_words.specs.Rule.{AreWordsKept}
 use Rattle.lease_words.specs.Leased.{Sits}
-use Rattle.lease_words.specs.Events.{span_of, Mirrors}
+use Rattle.lease_words.specs.Events.{span_drawn, Mirrors}
 use Rattle.lease_words.specs.declared.view.Bounds.{Bounds}
 use Rattle.lease_words.specs.declared.view.Entry.{Entry}
 use Rattle.lease_words.specs.declared.view.View.{View}
@@ -21,7 +21,7 @@ use Rattle.lease_words.specs.declared.view.View.{View}
 pub record IsUnspent (m : Machine) (entries : List Entry) (e : Entry) : Type 0 where
   pub before : List Entry
   pub newest : entries ≡ before ++ e ∷ []
-  pub unspent : has_span (span_of e) m.spent ≡ false
+  pub unspent : has_span (span_drawn e) m.spent ≡ false
 
 -- what a pass has just drawn is unspent
 abbrev pub DrawIsUnspent : Type 0
@@ -64,7 +64,7 @@ StaysUnspent =
 abbrev pub ForNewest : (Bounds → ℕ → ℕ → List View → View → Entry → Machine → Type 0) → Type 0
 ForNewest Holds =
     (b : Bounds) (next shown mark : ℕ) (views : List View) (seat : ℕ) (v : View) (e : Entry) (m : Machine)
-    → IsKept b next shown mark views
+    → AreWordsKept b next shown mark views
     → Sits views seat v
     → IsPassView v
     → IsUnspent m v.entries e
@@ -75,8 +75,8 @@ abbrev pub SpendIsEvent : Type 0
 SpendIsEvent = ForNewest (λ b next shown views v e m.
     end_of e ≤ (own v).known
     → Mirrors b next shown views m
-    → (is_possible m (Spend (own v).number (span_of e)) ≡ true)
-    × Mirrors b next shown views (after m (Spend (own v).number (span_of e))))
+    → (is_possible m (Spend (own v).number (span_drawn e)) ≡ true)
+    × Mirrors b next shown views (after m (Spend (own v).number (span_drawn e))))
 
 -- ---- puts
 
@@ -151,7 +151,7 @@ PutEnds =
 -- ---- crashes
 
 -- A store that was up and showed this ceiling stopped, and the slot of its put has this gate (it is open where that is 90)
-pub record IsStopped (shown gate : ℕ) (m now : Machine) : Type 0 where
+pub record IsStoreStopped (shown gate : ℕ) (m now : Machine) : Type 0 where
   pub down : now.up ≡ false
   pub total : now.total ≡ m.total
   pub passes : now.passes ≡ m.passes
@@ -172,4 +172,4 @@ CrashIsEvent =
     (b : Bounds) (next shown : ℕ) (views : List View) (body : List ℕ) (gate : ℕ) (m : Machine)
     → IsReached m
     → Mirrors b next shown views m
-    → (is_possible m (Crash body gate) ≡ true) × IsStopped shown gate m (after m (Crash body gate))
+    → (is_possible m (Crash body gate) ≡ true) × IsStoreStopped shown gate m (after m (Crash body gate))

@@ -30,11 +30,11 @@ abbrev pub units_drawn : List Entry → ℕ
 units_drawn entries = sum_by (λ e. e.count) entries
 
 -- how many entries end above the total, and how many of these are of one pass
-abbrev pub overshoots : ℕ → List Entry → ℕ
-overshoots total entries = count_by (λ e. nat_lt total (end_of e)) entries
+abbrev pub entry_overshoots : ℕ → List Entry → ℕ
+entry_overshoots total entries = count_by (λ e. nat_lt total (end_of e)) entries
 
-abbrev pub overshoots_of : ℕ → ℕ → List Entry → ℕ
-overshoots_of total pass entries = count_by (λ e. nat_eq e.pass pass && nat_lt total (end_of e)) entries
+abbrev pub entry_overshoots_of : ℕ → ℕ → List Entry → ℕ
+entry_overshoots_of total pass entries = count_by (λ e. nat_eq e.pass pass && nat_lt total (end_of e)) entries
 
 -- how many reports are of one pass
 abbrev pub reports_of : ℕ → List Report → ℕ

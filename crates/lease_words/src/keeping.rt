@@ -1,6 +1,6 @@
 // What the journal's seat does with what it owns.
 ghost use Rattle.std.specs.Prelude.{◌≡◌, ◌≤◌, ℕ, OnOk};
-ghost use Rattle.lease_words.specs.Calls.{asked_of};
+ghost use Rattle.lease_words.specs.Calls.{asked_by_seat};
 
 use crate::keeper::Keeper;
 use crate::pass::JournalSeat;
@@ -22,7 +22,7 @@ impl<K: Keeper> JournalSeat<K> {
     /// As the keeper's.
     pub fn store(&mut self, ceiling: u64) -> Result<(), JournalFault>
         requires may { K.may self.old.keeper ceiling }
-        requires asked { ceiling ≤ asked_of self.old }
+        requires asked { ceiling ≤ asked_by_seat self.old }
         ensures seat { self.new.seat ≡ self.old.seat }
         ensures moves { K.moves self.old.keeper ceiling result self.new.keeper }
         ensures named { K.label self.new.keeper ≡ K.label self.old.keeper }

@@ -1,5 +1,5 @@
 // What a thread draws with, and what the journal raises the ceiling with.
-ghost use Rattle.lease_words.specs.Passes.{IsPass, IsJournal, IsReceipt, IsWord};
+ghost use Rattle.lease_words.specs.Passes.{IsPass, IsJournal, IsReceipt, IsFaultWord};
 
 use crate::fault::Exhausted;
 use crate::view::View;
@@ -25,7 +25,7 @@ pub struct Receipt {
 #[derive(Drop)]
 pub struct FaultWord {
     pub(crate) seat: Seat<(), View>,
-    ghost is_word: { IsWord seat.me },
+    ghost is_word: { IsFaultWord seat.me },
 }
 
 /// The one seat that raises the ceiling and sets the mark. It owns what keeps the ceiling, and lends nobody the right to

@@ -1,7 +1,7 @@
 // What passes and the journal's seat tell each other.
 ghost use Rattle.std.specs.Prelude.{◌≡◌};
 ghost use Rattle.lease_words.specs.Views.{after_receipt, after_telling, after_told};
-ghost use Rattle.lease_words.specs.Calls.{seen, drawn_of, drawn_on, journal_view, met_on, own_met_of};
+ghost use Rattle.lease_words.specs.Calls.{seen, drawn_by_pass, drawn_on, journal_view, met_on, own_met_of};
 ghost use Rattle.lease_words.specs.Calls.{IsPassOf, IsReceiptOf, IsSame, IsSeatOf, IsWordOf};
 
 use crate::keeper::Keeper;
@@ -17,7 +17,7 @@ impl<K: Keeper> Words<K> {
         ensures kept { pass.new.kept ≡ pass.old.kept }
         ensures seen { seen pass.new ≡ seen pass.old }
         ensures receipt { IsReceiptOf self.now result }
-        ensures drawn { drawn_on result ≡ drawn_of pass.old }
+        ensures drawn { drawn_on result ≡ drawn_by_pass pass.old }
     {
         Receipt {
             seat: self.table.shared.split_seat::<WriteReceipt>(&mut pass.seat),

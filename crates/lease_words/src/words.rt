@@ -2,7 +2,7 @@
 ghost use Rattle.std.specs.Prelude.{◌≡◌, ◌<◌, ◌≤◌, ◌⊎◌};
 ghost use Rattle.lease_words.specs.Views.{after_look, after_marked, after_raise, after_mark};
 ghost use Rattle.lease_words.specs.Calls.{seen, known_of, mark_of, journal_view, keeper_of, own_mark_of};
-ghost use Rattle.lease_words.specs.Calls.{asked_of, ceiling_of, limit_of};
+ghost use Rattle.lease_words.specs.Calls.{asked_by_seat, ceiling_of, limit_of};
 ghost use Rattle.lease_words.specs.Calls.{IsPassOf, IsSeatOf, IsSame, Drew};
 ghost use Rattle.lease_words.specs.Stored.{IsStored};
 ghost use Rattle.zk_model.specs.declared.limits.TheConstants.{MAX_UNITS};
@@ -78,7 +78,7 @@ impl<K: Keeper> Words<K> {
         requires own { IsSeatOf self.now seat.old }
         requires from { ceiling_of seat.old ≤ ceiling }
         requires to { ceiling ≤ limit_of seat.old }
-        requires asked { ceiling ≤ asked_of seat.old }
+        requires asked { ceiling ≤ asked_by_seat seat.old }
         requires named { K.label seat.old.keeper ≡ keeper_of seat.old }
         requires stored { K.stores seat.old.keeper ceiling }
         ensures own { IsSeatOf self.now seat.new }

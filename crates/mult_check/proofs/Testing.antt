@@ -7,7 +7,7 @@ use Rattle.zk_model.specs.Program.{section_count}
 use Rattle.zk_model.specs.Check.{KeyTriple, key_triple, section_of, ProductCheck, AllBelow, SectionHolds, left_of_section, right_of_section, section_left, section_right, section_keys}
 use Rattle.wire_auth.specs.Sides.{VerifierSide}
 use Rattle.mult_check.specs.Parts.{KeySum, IsSumOf}
-use Rattle.mult_check.specs.Checks.{product_check, DiffersFirst}
+use Rattle.mult_check.specs.Checks.{product_check, SectionDiffersFirst}
 use Rattle.mult_check.specs.declared.sections.Differs.{Differs}
 use Rattle.mult_check.specs.declared.fault.StreamFault.{StreamFault}
 use Rattle.mult_check.specs.declared.fault.StreamFault.TheVariants as stream
@@ -65,8 +65,8 @@ one_holds check s left right (of_left, of_right) same far i below = at (eq-or-lt
 pub differs_first : (check : ProductCheck) (s left right : ℕ) (differs : Differs) → s < section_count check.program check.section_length
     → (left_of_section check s ≡ left) × (right_of_section check s ≡ right) → left ≢ right
     → differs ≡ record { section = s; left = left; right = right }
-    → AllBelow s (SectionHolds check) → DiffersFirst check differs
-differs_first check s left right differs within (of_left, of_right) apart is far = subst (DiffersFirst check) (sym is) (record {
+    → AllBelow s (SectionHolds check) → SectionDiffersFirst check differs
+differs_first check s left right differs within (of_left, of_right) apart is far = subst (SectionDiffersFirst check) (sym is) (record {
   first = record {
     below = within;
     fails = λ same. apart (sym of_left ∙ same ∙ of_right);
@@ -87,7 +87,7 @@ on_err P (Err e) fault is holds = subst P (sym is) holds
 
 -- no other fault says that sides differ
 pub differs_only : {T : Type 0} (result : Result T StreamFault) (check : ProductCheck) (differs : Differs) → IsErrAnd result (λ fault. fault ≡ stream.Differs differs)
-    → DiffersFirst check differs → IfErr result (λ fault. (d : Differs) → fault ≡ stream.Differs d → DiffersFirst check d)
+    → SectionDiffersFirst check differs → IfErr result (λ fault. (d : Differs) → fault ≡ stream.Differs d → SectionDiffersFirst check d)
 unfolding held
 differs_only (Ok value) check differs is first = absurd is
-differs_only (Err fault) check differs is first = λ d same. subst (DiffersFirst check) (ap (held differs) (sym is ∙ same)) first
+differs_only (Err fault) check differs is first = λ d same. subst (SectionDiffersFirst check) (ap (held differs) (sym is ∙ same)) first

@@ -29,7 +29,7 @@ opening_check side key macs claims =
     record { program = side.program; key = key; keys = side.keys; macs = macs; claims = claims }
 
 -- the first section whose equation fails, and its two sides
-pub record DiffersFirst (check : ProductCheck) (differs : Differs) : Type 0 where
+pub record SectionDiffersFirst (check : ProductCheck) (differs : Differs) : Type 0 where
   pub first : FailsFirstAt check differs.section
   pub left : differs.left ≡ left_of_section check differs.section
   pub right : differs.right ≡ right_of_section check differs.section

@@ -2,7 +2,7 @@
 ghost use Rattle.std.specs.Prelude.{◌≡◌, ◌≢◌, ◌<◌, ◌≤◌, ◌*◌, ◌+◌, ◌-◌, [], length, map, min, take, drop, IfOk, IfErr};
 ghost use Rattle.zk_model.specs.Program.{part_count, section_count};
 ghost use Rattle.zk_model.specs.Check.{section_of, section_right, all_sums, AllSectionsHold};
-ghost use Rattle.mult_check.specs.Checks.{product_check, DiffersFirst};
+ghost use Rattle.mult_check.specs.Checks.{product_check, SectionDiffersFirst};
 
 use crate::parts::{ProverPart, Sums, VerifierPart};
 use mersenne_field::{Fe, Pair};
@@ -204,7 +204,7 @@ pub fn check(
     ensures holds { IfOk result (λ _.
         AllSectionsHold (product_check wires.now g challenge mask_keys.now key sums.now)) }
     ensures differs { IfErr result (λ d.
-        DiffersFirst (product_check wires.now g challenge mask_keys.now key sums.now) d) }
+        SectionDiffersFirst (product_check wires.now g challenge mask_keys.now key sums.now) d) }
 {
     let _products = wires.program().products();
     let none = VerifierPart::new(challenge, key);

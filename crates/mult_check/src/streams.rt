@@ -3,7 +3,7 @@
 ghost use Rattle.std.specs.Prelude.{◌≡◌, ◌≤◌, length, IfOk, IfErr, OnOk};
 ghost use Rattle.zk_model.specs.Check.{all_sums, AllSectionsHold};
 ghost use Rattle.zk_model.specs.Program.{section_count};
-ghost use Rattle.mult_check.specs.Checks.{sent_check, DiffersFirst};
+ghost use Rattle.mult_check.specs.Checks.{sent_check, SectionDiffersFirst};
 ghost use Rattle.mult_check.specs.declared.sections.Differs.{Differs};
 ghost use Rattle.mult_check.specs.declared.fault.StreamFault.TheVariants as stream;
 
@@ -129,7 +129,7 @@ pub fn stream_check<R: Threads + Sync>(
     ensures met { OnOk result (length walk.old.side.program.products ≤ walk.new.met) }
     ensures holds { IfOk result (λ _. AllSectionsHold (sent_check walk.old.side sent.now)) }
     ensures differs { IfErr result (λ e. (d : Differs) → e ≡ stream.Differs d
-        → DiffersFirst (sent_check walk.old.side sent.now) d) }
+        → SectionDiffersFirst (sent_check walk.old.side sent.now) d) }
 {
     let _products = walk.products();
     let none = VerifierPart::new(sent.challenge, sent.key);
@@ -186,7 +186,7 @@ pub fn check_along(walk: &mut VerifierWalk<'_>, sent: &SentSums<'_>) -> Result<(
     ensures side { walk.new.side ≡ walk.old.side }
     ensures met { OnOk result (length walk.old.side.program.products ≤ walk.new.met) }
     ensures holds { IfOk result (λ _. AllSectionsHold (sent_check walk.old.side sent.now)) }
-    ensures differs { IfErr result (DiffersFirst (sent_check walk.old.side sent.now)) }
+    ensures differs { IfErr result (SectionDiffersFirst (sent_check walk.old.side sent.now)) }
 {
     let _products = walk.products();
     let none = VerifierPart::new(sent.challenge, sent.key);

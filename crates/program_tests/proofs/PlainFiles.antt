@@ -3,8 +3,8 @@ use Rattle.std.proofs.Common.{◌≡◌, ◌+◌, ◌*◌, ◌==◌, ◌&&◌, n
 use Rattle.std.proofs.lemmas.Bool.Decides.{nat_tests}
 use Rattle.zk_model.specs.declared.JournalKind.{JournalKind}
 use Rattle.zk_model.specs.declared.JournalKind.TheVariants.{Claims, Ceilings}
-use Rattle.zk_model.specs.Journals.{journal_code, slots_at}
-use Rattle.zk_model.specs.Twins.{TwinStands, are_twin_slots, is_migrated, twin_begin, twin_code}
+use Rattle.lease_journal.specs.Journals.{journal_code, slots_at}
+use Rattle.lease_journal.specs.Twins.{TwinStands, are_twin_slots, is_migrated, twin_begin, twin_code}
 
 pub begins_first : (kind either : JournalKind) (id : List ℕ) (total slots : ℕ) (bytes : List ℕ) → TwinStands kind id total 0 slots bytes
     → twin_begin either bytes ≡ 0

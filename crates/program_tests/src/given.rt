@@ -1,6 +1,6 @@
 // What stands there before a session: dealt files, and a new journal of theirs.
 ghost use Rattle.std.specs.Prelude.{◌≡◌, IfOk};
-ghost use Rattle.zk_model.specs.Twins.{twin_begin, twin_slots_at};
+ghost use Rattle.lease_journal.specs.Twins.{twin_begin, twin_slots_at};
 ghost use Rattle.twin_journal.specs.Starts.{AreTidy};
 ghost use Rattle.file_commands.specs.Journals.{IsJournalDisk};
 

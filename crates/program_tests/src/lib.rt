@@ -1,5 +1,4 @@
-//! Tests of what takes objects or threads of its own. What a run's lines and status are stands in the lines of `session_runs` and
-//! `stored_runs`.
+//! Tests of what takes objects or threads of its own. What a run's lines and status are stands in the lines of `session_runs`.
 //!
 //! `serve_tests` has services with peers that are honest over whichever units they are granted, some of which wait for each other, and
 //! `party_tests` both ends in one process, over a connection: whole runs, through `run_zk`. `fan_tests` has the rounds of units,

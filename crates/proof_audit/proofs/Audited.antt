@@ -24,7 +24,7 @@ use Rattle.zk_laws.proofs.SessionKeys.{AreBothEnds, left_side, wire_fits, opened
 use Rattle.zk_laws.proofs.Views.{rounds_are, enough_pairs, given_count}
 use Rattle.zk_laws.proofs.WholePairs.{pairs_are_whole}
 use Rattle.zk_laws.specs.SeenPairs.{AreSessionPairs}
-use Rattle.proof_audit.specs.Audits.{IsAudited, AreBitsOf, Gives}
+use Rattle.proof_audit.specs.Audits.{IsAudited, AreFoundBits, FileGives}
 use Rattle.check_findings.specs.Findings.{ShowsOpening}
 use Rattle.proof_audit.specs.Seen.{HasRounds, ArePairsBy, AreSeenPairs}
 use Rattle.proof_audit.specs.SeenWires.{SeenSide}
@@ -177,7 +177,7 @@ openings_meet prover task s pairs wires are = record {
 
 pub gives_section : (prover : ProverFile) (task : VerifierTask) (s : Session) (pairs : List Pair) (wires : WirePairs)
     → (are : AreSeen prover task s pairs wires) → (shown : Finding) → ShowsFirstSection (side_of task wires) pairs s shown
-    → Gives prover task.statement (transcript_read task are.audited.greeting s 0 0) shown
+    → FileGives prover task.statement (transcript_read task are.audited.greeting s 0 0) shown
 gives_section prover task s pairs wires are (Inputs bits) shows = absurd shows
 gives_section prover task s pairs wires are NotAccepted shows = absurd shows
 gives_section prover task s pairs wires are (ChallengeRoot section polynomial) shows = record {
@@ -198,7 +198,7 @@ pub gives_opening : (prover : ProverFile) (task : VerifierTask) (s : Session) (p
     → IsFirstFailure (λ n. (pair_at (opened_pairs task.statement.program wires) n).x ≡ slice_index task.statement.claims n)
     (length task.statement.program.opened) o
     → ShowsOpening (pair_at (opened_pairs task.statement.program wires) o) (slice_index s.openings.items o) (slice_index task.statement.claims o) shown
-    → Gives prover task.statement (transcript_read task are.audited.greeting s 0 0) shown
+    → FileGives prover task.statement (transcript_read task are.audited.greeting s 0 0) shown
 gives_opening prover task s pairs wires o are (Inputs bits) right first shows = absurd shows
 gives_opening prover task s pairs wires o are NotAccepted right first shows = absurd shows
 gives_opening prover task s pairs wires o are (ChallengeRoot section polynomial) right first shows = absurd shows
@@ -214,7 +214,7 @@ pub gives_inputs : (prover : ProverFile) (task : VerifierTask) (s : Session) (pa
     → NoErrorsBefore (side_of task wires) s (section_count task.statement.program s.grant.section_length)
     → AreAsClaimedBefore (side_of task wires) task.statement.claims (length task.statement.program.opened)
     → bits ≡ map (λ x. nat_eq x 1) (take task.statement.program.inputs (values_of wires.given))
-    → AreBitsOf prover task.statement (transcript_read task are.audited.greeting s 0 0) bits
+    → AreFoundBits prover task.statement (transcript_read task are.audited.greeting s 0 0) bits
 gives_inputs prover task s pairs wires bits are right claimed is = record {
   inputs = take task.statement.program.inputs (values_of wires.given);
   bits_are = is;

@@ -15,7 +15,7 @@ use Rattle.zk_model.specs.declared.Params.{Params}
 use Rattle.zk_laws.proofs.Extracted.{extraction_holds}
 use Rattle.zk_laws.proofs.OneFinding.{one_finding}
 use Rattle.session_laws.proofs.OutputsShown.{extracted_shows_outputs}
-use Rattle.proof_audit.specs.Audits.{IsAudited, Gives, Finds, LogGives, audit_task}
+use Rattle.proof_audit.specs.Audits.{IsAudited, FileGives, AuditFinds, LogGives, audit_task}
 use Rattle.proof_audit.specs.Stages.{transcript_read}
 use Rattle.check_findings.specs.declared.finding.Finding.{Finding}
 use Rattle.check_findings.specs.declared.finding.Finding.TheVariants.{Inputs, ChallengeRoot, KeyRoot, NotAccepted}
@@ -97,7 +97,7 @@ bits_found circuit public outputs inputs bits satisfying are =
 
 gives_so : (circuit : Circuit) (digest : List ℕ) (public outputs : List Bool) (prover : ProverFile) (verifier : VerifierFile) (log : List ℕ)
     (s : Session) (shown : Finding) → (about : IsAbout circuit digest public outputs prover verifier log s)
-    → Gives prover (circuit_statement circuit digest public outputs)
+    → FileGives prover (circuit_statement circuit digest public outputs)
     (transcript_read (audit_task circuit digest public outputs verifier) about.audited.greeting s 0 0) shown
     → LogGives circuit public outputs prover (audit_task circuit digest public outputs verifier) log shown
 gives_so circuit digest public outputs prover verifier log s NotAccepted about gives = absurd gives
@@ -112,8 +112,8 @@ gives_so circuit digest public outputs prover verifier log s (Inputs bits) about
 
 pub finds : (circuit : Circuit) (digest : List ℕ) (public outputs : List Bool) (prover : ProverFile) (verifier : VerifierFile) (log : List ℕ)
     (s : Session) (shown : Finding) → (about : IsAbout circuit digest public outputs prover verifier log s)
-    → Gives prover (circuit_statement circuit digest public outputs)
+    → FileGives prover (circuit_statement circuit digest public outputs)
     (transcript_read (audit_task circuit digest public outputs verifier) about.audited.greeting s 0 0) shown
-    → Finds circuit public outputs prover (audit_task circuit digest public outputs verifier) log shown
+    → AuditFinds circuit public outputs prover (audit_task circuit digest public outputs verifier) log shown
 finds circuit digest public outputs prover verifier log s shown about gives =
     (about.audited.dealt, gives_so circuit digest public outputs prover verifier log s shown about gives)

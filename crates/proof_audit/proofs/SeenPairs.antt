@@ -21,7 +21,7 @@ use Rattle.session_core.specs.Extending.{asks_of, replies_of}
 use Rattle.proof_audit.specs.Audits.{IsAudited}
 use Rattle.proof_audit.specs.Seen.{ArePairsBy, AreUnitPairs, AreSeenPairs}
 use Rattle.proof_audit.specs.SeenValues.{unit_values, round_values, fitted_pairs}
-use Rattle.proof_audit.specs.Stages.{KeepsKeys, rounds_read, setup_read}
+use Rattle.proof_audit.specs.Stages.{HoldsRoundKeys, rounds_read, setup_read}
 use Rattle.proof_audit.specs.declared.session.Session.{Session}
 use Rattle.proof_audit.proofs.Audited.{whole, round_whole, has_rounds}
 use Rattle.proof_audit.proofs.SeenValues.{extension_values, unit_is, values_joined}
@@ -126,7 +126,7 @@ seen_by_keys prover task s values keys audited is are kept = subst (AreSeenPairs
 
     seen_keys : keys ≡ map (fitting_key task.file.key) pairs
     seen_keys = kept
-        ∙ (subst (λ (kind : Kind). KeepsKeys kind task.file s.grant s.keys.items) extended audited.kept).0
+        ∙ (subst (λ (kind : Kind). HoldsRoundKeys kind task.file s.grant s.keys.items) extended audited.kept).0
         ∙ keys_fit prover task.file (setup_read task audited.greeting s) pairs audited.prover_file audited.verifier_file audited.dealt
         rounds audited.served.replies found.1
 

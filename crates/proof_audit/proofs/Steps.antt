@@ -31,7 +31,7 @@ use Rattle.session_core.specs.Extending.{asks_in, replies_in, asks_of, replies_o
 use Rattle.session_laws.proofs.Shapes.{round_replies_shaped}
 use Rattle.proof_audit.specs.declared.session.Session.{Session}
 use Rattle.proof_audit.specs.declared.session.Stage.TheVariants as at
-use Rattle.proof_audit.specs.Stages.{IsSet, KeepsKeys, Describes, IsDescribed, Takes, Wrongs, setup_read, rounds_read}
+use Rattle.proof_audit.specs.Stages.{IsSetUp, HoldsRoundKeys, Describes, IsDescribed, StageTakes, Wrongs, setup_read, rounds_read}
 
 -- ---- one frame more
 
@@ -48,9 +48,9 @@ more before last frame frames is = ap (λ (fs : List Frame). fs ++ frame ∷ [])
 -- the challenge that is the coin
 pub challenge_next : (task : VerifierTask) (s : Session) (frame : Frame) (element : ℕ) → frame ≡ challenge element → IsElement element
     → element ≡ challenge_coin task.file s.grant.start
-    → Takes task (at.Challenge s) frame (at.Sums (record s { challenge = element }))
+    → StageTakes task (at.Challenge s) frame (at.Sums (record s { challenge = element }))
 challenge_next task s frame element is ranged coin =
-    subst (λ (f : Frame). Takes task (at.Challenge s) f (at.Sums (record s { challenge = element }))) (sym is)
+    subst (λ (f : Frame). StageTakes task (at.Challenge s) f (at.Sums (record s { challenge = element }))) (sym is)
     (λ frames described. record {
       given = record { given = s.grant; behind = _; granted = record { greeting = described.0; begun = described.1 }; coin = coin };
       described = (
@@ -63,9 +63,9 @@ challenge_next task s frame element is ranged coin =
 -- the openings
 pub openings_next : (task : VerifierTask) (s : Session) (frame : Frame) (macs : Vec Fe Global) → frame ≡ openings macs.items
     → AreElements (length task.statement.program.opened) macs.items
-    → Takes task (at.Openings s) frame (at.Verdict (record s { openings = macs }))
+    → StageTakes task (at.Openings s) frame (at.Verdict (record s { openings = macs }))
 openings_next task s frame macs is counted =
-    subst (λ (f : Frame). Takes task (at.Openings s) f (at.Verdict (record s { openings = macs }))) (sym is)
+    subst (λ (f : Frame). StageTakes task (at.Openings s) f (at.Verdict (record s { openings = macs }))) (sym is)
     (λ frames described. record {
       given = tt;
       described = (
@@ -129,9 +129,9 @@ pub record IsAskMore (task : VerifierTask) (old new : Session) (frame : coded.Fr
 
 -- as long as others are to come
 pub asks_next : (task : VerifierTask) (old new : Session) (frame : coded.Frame) (trees : List TreeAsk) → IsAskMore task old new frame trees
-    → length new.asked.items < new.grant.count → Takes task (at.Asks old) (frame_value frame) (at.Asks new)
+    → length new.asked.items < new.grant.count → StageTakes task (at.Asks old) (frame_value frame) (at.Asks new)
 asks_next task old new frame trees one few =
-    subst (λ (f : Frame). Takes task (at.Asks old) f (at.Asks new)) (sym one.is)
+    subst (λ (f : Frame). StageTakes task (at.Asks old) f (at.Asks new)) (sym one.is)
     (λ frames described. record {
       given = tt;
       described = (
@@ -161,9 +161,9 @@ pub asks_last : (task : VerifierTask) (old new : Session) (frame : coded.Frame) 
     → map frame_value new.replied.items ≡ map replies (round_replies task.file new.grant (asks_of new.asked.items))
     → new.keys.items ≡ span_keys task.file (span_of new.grant)
     → length new.keys.items ≡ new.grant.count * correlations_per_unit task.file.params
-    → Takes task (at.Asks old) (frame_value frame) (at.Replies new 0)
+    → StageTakes task (at.Asks old) (frame_value frame) (at.Replies new 0)
 asks_last task old new frame trees file one all replied keys key_count =
-    subst (λ (f : Frame). Takes task (at.Asks old) f (at.Replies new 0)) (sym one.is)
+    subst (λ (f : Frame). StageTakes task (at.Asks old) f (at.Replies new 0)) (sym one.is)
     (λ frames described.
     let granted : IsGrant task.file.params task.statement.program new.grant =
     subst (IsGrant task.file.params task.statement.program) (sym one.granted) described.2.granted in
@@ -196,7 +196,7 @@ asks_last task old new frame trees file one all replied keys key_count =
           };
           replies = all_rounds task.file.params.kind (asks_of new.asked.items) (replies_of new.replied.items)
               (λ round. round.replies ≡ round_replies task.file new.grant round.asks) described.2.extended answered;
-          kept = subst (λ (k : Kind). KeepsKeys k task.file new.grant new.keys.items) (sym described.2.extended) (keys, key_count);
+          kept = subst (λ (k : Kind). HoldsRoundKeys k task.file new.grant new.keys.items) (sym described.2.extended) (keys, key_count);
         },
         described.2.extended,
         units_some task.file.params task.statement.program new.grant granted,
@@ -214,7 +214,7 @@ record IsRoundRead (task : VerifierTask) (s : Session) (done : ℕ) : Type 0 whe
   replied_count : length (replies_of s.replied.items) ≡ s.grant.count
   due : get_or (replies_of s.replied.items) done [] ≡ unit_reply task.file (s.grant.start + done) (get_or (asks_of s.asked.items) done [])
 
-round_read : (task : VerifierTask) (s : Session) (done : ℕ) (greeting : Hello) → IsSet task (setup_read task greeting s) s.keys.items
+round_read : (task : VerifierTask) (s : Session) (done : ℕ) (greeting : Hello) → IsSetUp task (setup_read task greeting s) s.keys.items
     → task.file.params.kind ≡ Extended → done < s.grant.count → IsRoundRead task s done
 round_read task s done greeting set extended below = record {
   asked_count = round.asks.0;
@@ -350,10 +350,10 @@ all_replied task s n greeting extended all =
 -- a frame of the replies that are due, of which others are to come
 pub replies_next : (task : VerifierTask) (s : Session) (done : ℕ) (frame : Frame) (trees : List TreeReply) → frame ≡ replies trees
     → trees ≡ get_or (replies_of s.replied.items) done [] → done + 1 < s.grant.count
-    → Takes task (at.Replies s done) frame (at.Replies s (done + 1))
+    → StageTakes task (at.Replies s done) frame (at.Replies s (done + 1))
 unfolding behind_grant
 replies_next task s done frame trees is same few =
-    subst (λ (f : Frame). Takes task (at.Replies s done) f (at.Replies s (done + 1))) (sym is)
+    subst (λ (f : Frame). StageTakes task (at.Replies s done) f (at.Replies s (done + 1))) (sym is)
     (λ frames described.
     let read = round_read task s done described.0 described.2 described.3 described.4 in
     record {
@@ -370,10 +370,10 @@ replies_next task s done frame trees is same few =
 -- and the last one
 pub replies_last : (task : VerifierTask) (s : Session) (done : ℕ) (frame : Frame) (trees : List TreeReply) → frame ≡ replies trees
     → trees ≡ get_or (replies_of s.replied.items) done [] → done + 1 ≡ s.grant.count
-    → Takes task (at.Replies s done) frame (at.Corrections s)
+    → StageTakes task (at.Replies s done) frame (at.Corrections s)
 unfolding behind_grant
 replies_last task s done frame trees is same all =
-    subst (λ (f : Frame). Takes task (at.Replies s done) f (at.Corrections s)) (sym is)
+    subst (λ (f : Frame). StageTakes task (at.Replies s done) f (at.Corrections s)) (sym is)
     (λ frames described. record {
       described = (
         described.0,
@@ -402,7 +402,7 @@ pub asks_few : (task : VerifierTask) (s : Session) → IsDescribed task (at.Asks
 asks_few task s described = described.1.3
 
 -- so many frames stand behind the grant
-pub round_facts : (task : VerifierTask) (s : Session) (done : ℕ) (greeting : Hello) → IsSet task (setup_read task greeting s) s.keys.items
+pub round_facts : (task : VerifierTask) (s : Session) (done : ℕ) (greeting : Hello) → IsSetUp task (setup_read task greeting s) s.keys.items
     → task.file.params.kind ≡ Extended → done < s.grant.count
     → length (map asks (asks_of s.asked.items) ++ map replies (take done (replies_of s.replied.items))) ≡ s.grant.count + done
 unfolding behind_grant

@@ -10,8 +10,8 @@ use Rattle.session_core.specs.Extending.{asks_in, asks_of}
 use Rattle.proof_frames.specs.Frames.{frame_value}
 use Rattle.proof_frames.specs.declared.frame.Frame as coded
 use Rattle.proof_audit.specs.Reading.{IsFreshReader, TakesFrame, StopsEarly, FindsBad, FindsFault}
-use Rattle.proof_audit.specs.Stages.{Describes, expected_at, Continues, Takes, Wrongs, setup_read, transcript_read}
-use Rattle.proof_audit.specs.Sessions.{IsUnderWay, IsReadWhole, IsReadSession, IsFaultOf}
+use Rattle.proof_audit.specs.Stages.{Describes, expected_at, Continues, StageTakes, Wrongs, setup_read, transcript_read}
+use Rattle.proof_audit.specs.Sessions.{IsLogUnderWay, IsReadWhole, IsReadSession, IsFaultOf}
 use Rattle.proof_audit.specs.declared.fault.AuditFault.{AuditFault}
 use Rattle.proof_audit.specs.declared.fault.AuditFault.TheVariants.{NotDealt, LogFault, NoMemory}
 use Rattle.proof_audit.specs.declared.reading.LogReader.{LogReader}
@@ -65,8 +65,8 @@ placed task frames stage place frame described some allowed =
 
 -- one frame more
 pub goes_on : (task : VerifierTask) (log : List ℕ) (old new : LogReader) (stage next : Stage) (place : Expect) (frame : Frame)
-    → expected_at task stage ≡ Some place → TakesFrame place frame old new → Takes task stage frame next
-    → IsUnderWay task log old stage → IsUnderWay task log new next
+    → expected_at task stage ≡ Some place → TakesFrame place frame old new → StageTakes task stage frame next
+    → IsLogUnderWay task log old stage → IsLogUnderWay task log new next
 goes_on task log old new stage next place frame some taken takes under =
     let continued : Continues task under.frames frame next = takes under.frames under.described in
     record {
@@ -89,7 +89,7 @@ goes_on task log old new stage next place frame some taken takes under =
 
 -- the log ends before a frame is whole
 pub ends_early : (task : VerifierTask) (log : List ℕ) (reader : LogReader) (stage : Stage) (place : Expect) → expected_at task stage ≡ Some place
-    → StopsEarly place reader.rest.now → IsUnderWay task log reader stage → EndsEarly task log
+    → StopsEarly place reader.rest.now → IsLogUnderWay task log reader stage → EndsEarly task log
 ends_early task log reader stage place some early under = record {
   frames = under.frames;
   rest = reader.rest.now;
@@ -102,7 +102,7 @@ ends_early task log reader stage place some early under = record {
 
 -- a bad byte
 pub bad_fault : (task : VerifierTask) (log : List ℕ) (reader : LogReader) (stage : Stage) (place : Expect) (found : ℕ) → expected_at task stage ≡ Some place
-    → FindsBad place reader.rest.now reader.decoder found → IsUnderWay task log reader stage → HasFaultAt task log found
+    → FindsBad place reader.rest.now reader.decoder found → IsLogUnderWay task log reader stage → HasFaultAt task log found
 bad_fault task log reader stage place found some bad under = record {
   frames = under.frames;
   rest = reader.rest.now;
@@ -116,7 +116,7 @@ bad_fault task log reader stage place found some bad under = record {
 -- a wrong frame
 pub wrong_fault : (task : VerifierTask) (log : List ℕ) (old new : LogReader) (stage : Stage) (place : Expect) (frame : Frame) (found : ℕ)
     → expected_at task stage ≡ Some place → TakesFrame place frame old new → Wrongs task stage frame → found ≡ new.decoder.received - 1
-    → IsUnderWay task log old stage → HasFaultAt task log found
+    → IsLogUnderWay task log old stage → HasFaultAt task log found
 wrong_fault task log old new stage place frame found some taken wrongs last under = record {
   frames = under.frames;
   rest = old.rest.now;
@@ -152,7 +152,7 @@ none_left task frames at.Declined described none = described.4
 
 -- bytes behind the last frame
 pub behind_fault : (task : VerifierTask) (log : List ℕ) (reader : LogReader) (stage : Stage) (found : ℕ) → expected_at task stage ≡ None
-    → 0 < length reader.rest.now → found ≡ reader.decoder.received → IsUnderWay task log reader stage → HasFaultAt task log found
+    → 0 < length reader.rest.now → found ≡ reader.decoder.received → IsLogUnderWay task log reader stage → HasFaultAt task log found
 behind_fault task log reader stage found none some at under = record {
   frames = under.frames;
   rest = reader.rest.now;
@@ -165,7 +165,7 @@ behind_fault task log reader stage found none some at under = record {
 -- ---- the end
 
 -- nothing has been read
-pub begins : (task : VerifierTask) (log : List ℕ) (reader : LogReader) → IsFreshReader log reader → IsUnderWay task log reader at.Hello
+pub begins : (task : VerifierTask) (log : List ℕ) (reader : LogReader) → IsFreshReader log reader → IsLogUnderWay task log reader at.Hello
 begins task log reader fresh = record {
   frames = [];
   read = record { faultless = none_faultless task; bytes = sym fresh.rest };
@@ -216,7 +216,7 @@ reads_none task log reader stage other whole = inr (by_stage stage other whole.l
 -- ---- faults of a reader
 
 pub reading_fault : (task : VerifierTask) (log : List ℕ) (reader : LogReader) (stage : Stage) (place : Expect) (fault : AuditFault)
-    → expected_at task stage ≡ Some place → FindsFault place reader fault → IsUnderWay task log reader stage → IsFaultOf task log fault
+    → expected_at task stage ≡ Some place → FindsFault place reader fault → IsLogUnderWay task log reader stage → IsFaultOf task log fault
 reading_fault task log reader stage place (NotDealt unit) some found under = found
 reading_fault task log reader stage place (LogFault found_at) some found under = bad_fault task log reader stage place found_at some found under
 reading_fault task log reader stage place NoMemory some found under = tt

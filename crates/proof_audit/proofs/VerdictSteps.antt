@@ -16,7 +16,7 @@ use Rattle.session_core.specs.Judgements.{Finds, IsJudgement, session_transcript
 use Rattle.session_core.specs.declared.judgement.Judgement.{Judgement}
 use Rattle.proof_audit.specs.declared.session.Session.{Session}
 use Rattle.proof_audit.specs.declared.session.Stage.TheVariants as at
-use Rattle.proof_audit.specs.Stages.{IsOpened, Describes, Takes, Wrongs, rounds_read, setup_read, commitment_read, transcript_read}
+use Rattle.proof_audit.specs.Stages.{IsOpened, Describes, StageTakes, Wrongs, rounds_read, setup_read, commitment_read, transcript_read}
 use Rattle.proof_audit.proofs.OneVerdict.{one_judged}
 use Rattle.proof_audit.proofs.Places.{none_behind}
 
@@ -206,9 +206,9 @@ pub verdict_accepts : (task : VerifierTask) (s : Session) (frame : Frame) (code 
     → IsStatement task.statement
     → Finds (verifier_of task.statement task.file s.grant.section_length) s.grant.start s.corrections.items s.sums.items s.openings.items judgement
     → code ≡ verdict_code (verdict_in judgement) → number ≡ verdict_number (verdict_in judgement) → code ≡ 0
-    → Takes task (at.Verdict s) frame (at.Accepted s)
+    → StageTakes task (at.Verdict s) frame (at.Accepted s)
 verdict_accepts task s frame code number judgement is stated finds coded numbered none =
-    subst (λ (f : Frame). Takes task (at.Verdict s) f (at.Accepted s)) (sym is)
+    subst (λ (f : Frame). StageTakes task (at.Verdict s) f (at.Accepted s)) (sym is)
     (λ frames described.
     let right = checked task s described.0 judgement 0 0 described.2 finds in
     record {
@@ -245,9 +245,9 @@ verdict_accepts task s frame code number judgement is stated finds coded numbere
 pub verdict_declines : (task : VerifierTask) (s : Session) (frame : Frame) (code number : ℕ) (judgement : Judgement) → frame ≡ verdict code number
     → Finds (verifier_of task.statement task.file s.grant.section_length) s.grant.start s.corrections.items s.sums.items s.openings.items judgement
     → code ≡ verdict_code (verdict_in judgement) → number ≡ verdict_number (verdict_in judgement) → code ≢ 0
-    → Takes task (at.Verdict s) frame at.Declined
+    → StageTakes task (at.Verdict s) frame at.Declined
 verdict_declines task s frame code number judgement is finds coded numbered some =
-    subst (λ (f : Frame). Takes task (at.Verdict s) f at.Declined) (sym is)
+    subst (λ (f : Frame). StageTakes task (at.Verdict s) f at.Declined) (sym is)
     (λ frames described. record {
       given = given_verdict task s frames code number judgement described finds coded numbered;
       described = (

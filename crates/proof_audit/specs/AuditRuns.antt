@@ -15,7 +15,7 @@ use Rattle.command_words.specs.BitWords.{Bits}
 use Rattle.command_words.specs.BitWords.{bits_word}
 use Rattle.command_words.specs.Words.{AuditAsk, audit_ask}
 use Rattle.dealer_files.specs.Faults.{IsDealtFile}
-use Rattle.proof_audit.specs.Audits.{Finds, AuditCause}
+use Rattle.proof_audit.specs.Audits.{AuditFinds, AuditCause}
 use Rattle.proof_audit.specs.declared.fault.AuditFault.{AuditFault}
 use Rattle.proof_audit.specs.declared.fault.AuditFault.TheVariants as fault
 use Rattle.check_findings.specs.declared.finding.Finding.{Finding}
@@ -88,7 +88,7 @@ pub record HasAudit (told : Option Files) (ask : AuditAsk Bits)
 -- this is what is found in the log
 abbrev pub FindsIn : Option Files → AuditAsk Bits → Finding → Type 0
 FindsIn told ask finding =
-    HasAudit told ask (λ circuit prover task log. Finds circuit ask.public ask.outputs prover task log finding)
+    HasAudit told ask (λ circuit prover task log. AuditFinds circuit ask.public ask.outputs prover task log finding)
 
 -- ---- why nothing is found
 

@@ -11,7 +11,7 @@ use Rattle.zk_model.specs.ServedVerifier.{VerifierTask, IsServed}
 use Rattle.zk_model.specs.Audit.{HasFaultAt, IsNotAccepted, IsFoundIn}
 use Rattle.zk_model.specs.declared.Verdict.TheVariants.{Accepted}
 use Rattle.dealer_files.specs.Dealt.{IsFirstApart}
-use Rattle.proof_audit.specs.Stages.{KeepsKeys, transcript_read}
+use Rattle.proof_audit.specs.Stages.{HoldsRoundKeys, transcript_read}
 use Rattle.proof_audit.specs.declared.fault.AuditFault.{AuditFault}
 use Rattle.proof_audit.specs.declared.fault.AuditFault.TheVariants.{NotDealt, LogFault, NoMemory}
 use Rattle.check_findings.specs.declared.finding.Finding.{Finding}
@@ -28,10 +28,10 @@ pub record IsAudited (prover : ProverFile) (task : VerifierTask) (s : Session) :
   pub greeting : Hello
   pub served : IsServed task (transcript_read task greeting s 0 0) Accepted
       (spelling (transcript_read task greeting s 0 0))
-  pub kept : KeepsKeys task.file.params.kind task.file s.grant s.keys.items
+  pub kept : HoldsRoundKeys task.file.params.kind task.file s.grant s.keys.items
 
 -- these bits are inputs that are 1, and the others not
-pub record AreBitsOf
+pub record AreFoundBits
     (file : ProverFile)
     (statement : Statement)
     (t : Transcript)
@@ -41,13 +41,13 @@ pub record AreBitsOf
   pub found : IsFinding file statement t (model.found_inputs inputs)
 
 -- what the prover's file and a session give
-abbrev pub Gives : ProverFile → Statement → Transcript → Finding → Type 0
-Gives file statement t (Inputs bits) = AreBitsOf file statement t bits.items
-Gives file statement t (ChallengeRoot section polynomial) =
+abbrev pub FileGives : ProverFile → Statement → Transcript → Finding → Type 0
+FileGives file statement t (Inputs bits) = AreFoundBits file statement t bits.items
+FileGives file statement t (ChallengeRoot section polynomial) =
     IsFinding file statement t (model.found_challenge_root section polynomial.items)
-Gives file statement t (KeyRoot polynomial) =
+FileGives file statement t (KeyRoot polynomial) =
     IsFinding file statement t (model.found_key_root polynomial.items)
-Gives file statement t NotAccepted = ⊥
+FileGives file statement t NotAccepted = ⊥
 
 -- ---- a log
 
@@ -67,8 +67,8 @@ LogGives circuit public outputs prover task log (KeyRoot polynomial) =
 LogGives circuit public outputs prover task log NotAccepted = IsNotAccepted task log
 
 -- what an audit finds: the files are dealt together, and the log gives this
-abbrev pub Finds : Circuit → List Bool → List Bool → ProverFile → VerifierTask → List ℕ → Finding → Type 0
-Finds circuit public outputs prover task log finding =
+abbrev pub AuditFinds : Circuit → List Bool → List Bool → ProverFile → VerifierTask → List ℕ → Finding → Type 0
+AuditFinds circuit public outputs prover task log finding =
     AreDealt prover task.file × LogGives circuit public outputs prover task log finding
 
 -- why it finds nothing: the files are not dealt together, from this unit on; they are, and the log has a fault; or memory is missing

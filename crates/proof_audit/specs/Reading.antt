@@ -9,14 +9,14 @@ use Rattle.proof_audit.specs.declared.fault.AuditFault.TheVariants.{NotDealt, Lo
 use Rattle.proof_audit.specs.declared.reading.LogReader.{LogReader}
 
 -- a reader between two frames
-pub record IsBetween (reader : LogReader) : Type 0 where
+pub record IsBetweenFrames (reader : LogReader) : Type 0 where
   pub idle : reader.decoder.expected ≡ None
   pub empty : reader.decoder.taken ≡ []
   pub fine : reader.decoder.bad ≡ None
 
 -- one that has read nothing of a log
 pub record IsFreshReader (log : List ℕ) (reader : LogReader) : Type 0 where
-  pub between : IsBetween reader
+  pub between : IsBetweenFrames reader
   pub rest : reader.rest.now ≡ log
   pub received : reader.decoder.received ≡ 0
 
@@ -54,7 +54,7 @@ pub record TakesFrame (place : Expect) (frame : Frame) (old new : LogReader) : T
   pub allowed : Allows place frame
   pub bytes : old.rest.now ≡ frame_spelling frame ++ new.rest.now
   pub received : new.decoder.received ≡ old.decoder.received + length (frame_spelling frame)
-  pub between : IsBetween new
+  pub between : IsBetweenFrames new
 
 -- what is left is no whole frame that the place allows, and can become one
 pub record StopsEarly (place : Expect) (rest : List ℕ) : Type 0 where

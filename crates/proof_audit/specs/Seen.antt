@@ -9,13 +9,13 @@ use Rattle.zk_model.specs.View.{span_of}
 use Rattle.zk_model.specs.declared.Kind.{Kind}
 use Rattle.zk_model.specs.declared.Kind.TheVariants.{Direct, Extended}
 use Rattle.session_core.specs.Extending.{asks_of, replies_of}
-use Rattle.session_core.specs.Fixing.{AreUnits}
+use Rattle.session_core.specs.Fixing.{AreRoundUnits}
 use Rattle.proof_audit.specs.declared.session.Session.{Session}
 
 -- the pairs of the units from this one on, by what was asked for each and replied
 abbrev pub AreUnitPairs : ProverFile → ℕ → List (List TreeAsk) → List (List TreeReply) → List Pair → Type 0
 AreUnitPairs file start asked replied pairs =
-    AreUnits (λ i unit. IsExtension file.params file.code_seed (prover_unit file (start + i))
+    AreRoundUnits (λ i unit. IsExtension file.params file.code_seed (prover_unit file (start + i))
     (record { asks = slice_index_or asked i []; replies = slice_index_or replied i [] }) unit) (length asked) pairs
 
 -- in kind extended, asks and replies for each unit of the grant

@@ -5,8 +5,8 @@ use Rattle.zk_model.specs.Transcript.{Hello, spelling}
 use Rattle.zk_model.specs.ServedVerifier.{VerifierTask, IsServed}
 use Rattle.zk_model.specs.Audit.{frames_spelling, bytes_in, IsReadAs, HasFaultAt}
 use Rattle.zk_model.specs.declared.Verdict.TheVariants.{Accepted}
-use Rattle.proof_audit.specs.Reading.{IsBetween}
-use Rattle.proof_audit.specs.Stages.{Describes, KeepsKeys, expected_at, transcript_read}
+use Rattle.proof_audit.specs.Reading.{IsBetweenFrames}
+use Rattle.proof_audit.specs.Stages.{Describes, HoldsRoundKeys, expected_at, transcript_read}
 use Rattle.proof_audit.specs.declared.fault.AuditFault.{AuditFault}
 use Rattle.proof_audit.specs.declared.fault.AuditFault.TheVariants.{NotDealt, LogFault, NoMemory}
 use Rattle.proof_audit.specs.declared.reading.LogReader.{LogReader}
@@ -14,11 +14,11 @@ use Rattle.proof_audit.specs.declared.session.Session.{Session}
 use Rattle.proof_audit.specs.declared.session.Stage.{Stage}
 
 -- faultless frames have been read of a log, which leave this stage
-pub record IsUnderWay (task : VerifierTask) (log : List ℕ) (reader : LogReader) (stage : Stage) : Type 0 where
+pub record IsLogUnderWay (task : VerifierTask) (log : List ℕ) (reader : LogReader) (stage : Stage) : Type 0 where
   pub frames : List Frame
   pub read : IsReadAs task log frames reader.rest.now
   pub described : Describes task frames stage
-  pub between : IsBetween reader
+  pub between : IsBetweenFrames reader
   pub received : reader.decoder.received ≡ length (frames_spelling frames)
 
 -- all of it has been read, and no frame may follow
@@ -27,7 +27,7 @@ pub record IsReadWhole
     (log : List ℕ)
     (reader : LogReader)
     (stage : Stage) : Type 0 where
-  pub under_way : IsUnderWay task log reader stage
+  pub under_way : IsLogUnderWay task log reader stage
   pub ended : reader.rest.now ≡ []
   pub last : expected_at task stage ≡ None
 
@@ -36,7 +36,7 @@ pub record IsReadSession (task : VerifierTask) (log : List ℕ) (s : Session) : 
   pub greeting : Hello
   pub served : IsServed task (transcript_read task greeting s 0 0) Accepted
       (spelling (transcript_read task greeting s 0 0))
-  pub kept : KeepsKeys task.file.params.kind task.file s.grant s.keys.items
+  pub kept : HoldsRoundKeys task.file.params.kind task.file s.grant s.keys.items
   pub bytes : log ≡ bytes_in (spelling (transcript_read task greeting s 0 0))
 
 -- why a log is not read: it has a fault

@@ -63,21 +63,21 @@ transcript_read task greeting s code number = record {
 -- ---- what holds of them
 
 -- the verifier's keys that a round makes are kept; in kind direct they are dealt
-abbrev pub KeepsKeys : Kind → VerifierFile → Grant → List ℕ → Type 0
-KeepsKeys Direct file given keys = Unit {0}
-KeepsKeys Extended file given keys =
+abbrev pub HoldsRoundKeys : Kind → VerifierFile → Grant → List ℕ → Type 0
+HoldsRoundKeys Direct file given keys = Unit {0}
+HoldsRoundKeys Extended file given keys =
     (keys ≡ span_keys file (span_of given)) × (length keys ≡ given.count * correlations_per_unit file.params)
 
 -- a hello for the statement, a grant that fits, and rounds with the verifier's replies
-pub record IsSet (task : VerifierTask) (setup : Setup) (keys : List ℕ) : Type 0 where
+pub record IsSetUp (task : VerifierTask) (setup : Setup) (keys : List ℕ) : Type 0 where
   pub fits : IsHelloFor task.file.id task.statement setup.hello
   pub whole : IsSetup task.file.params task.statement.program setup
   pub replies : RepliesAre task.file setup
-  pub kept : KeepsKeys task.file.params.kind task.file setup.grant keys
+  pub kept : HoldsRoundKeys task.file.params.kind task.file setup.grant keys
 
 -- and a correction for each given value
 pub record IsCommitted (task : VerifierTask) (commitment : Commitment) (keys : List ℕ) : Type 0 where
-  pub set : IsSet task commitment.setup keys
+  pub set : IsSetUp task commitment.setup keys
   pub corrections : AreElements task.statement.program.givens commitment.corrections
 
 -- and the verifier's coin
@@ -135,12 +135,12 @@ Describes task frames (at.Asks s) = (greeting : Hello)
 Describes task frames (at.Replies s done) = (greeting : Hello)
     × (frames ≡ hello greeting ∷ grant s.grant
     ∷ map asks (asks_of s.asked.items) ++ map replies (take done (replies_of s.replied.items)))
-    × IsSet task (setup_read task greeting s) s.keys.items
+    × IsSetUp task (setup_read task greeting s) s.keys.items
     × (task.file.params.kind ≡ Extended)
     × (done < s.grant.count)
 Describes task frames (at.Corrections s) = (greeting : Hello)
     × (frames ≡ setup_frames (setup_read task greeting s))
-    × IsSet task (setup_read task greeting s) s.keys.items
+    × IsSetUp task (setup_read task greeting s) s.keys.items
 Describes task frames (at.Challenge s) = (greeting : Hello)
     × (frames ≡ setup_frames (setup_read task greeting s) ++ corrections s.corrections.items ∷ [])
     × IsCommitted task (commitment_read task greeting s) s.keys.items
@@ -161,7 +161,7 @@ Describes task frames (at.Accepted s) = (greeting : Hello)
     × (frames ≡ session_frames (transcript_read task greeting s 0 0))
     × IsServed task (transcript_read task greeting s 0 0) Accepted
     (spelling (transcript_read task greeting s 0 0))
-    × KeepsKeys task.file.params.kind task.file s.grant s.keys.items
+    × HoldsRoundKeys task.file.params.kind task.file s.grant s.keys.items
 Describes task frames at.Declined = (before : List Frame) × (last : Frame)
     × (frames ≡ before ++ last ∷ [])
     × Declines last
@@ -194,8 +194,8 @@ pub record Continues (task : VerifierTask) (frames : List Frame) (frame : Frame)
   pub described : Describes task (frames ++ frame ∷ []) next
 
 -- whatever frames leave a stage, a frame is given behind them, and leaves the next one
-abbrev pub Takes : VerifierTask → Stage → Frame → Stage → Type 0
-Takes task stage frame next =
+abbrev pub StageTakes : VerifierTask → Stage → Frame → Stage → Type 0
+StageTakes task stage frame next =
     (frames : List Frame) → Describes task frames stage → Continues task frames frame next
 
 -- or it is not given

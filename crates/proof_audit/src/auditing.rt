@@ -3,7 +3,7 @@ ghost use Rattle.std.specs.Prelude.{◌≡◌, ◌≤◌, ◌^◌, length, map, 
 ghost use Rattle.zk_model.specs.Bits.{from_bit};
 ghost use Rattle.zk_model.specs.Bytes.{AreBytes};
 ghost use Rattle.zk_model.specs.ServedVerifier.{VerifierTask};
-ghost use Rattle.proof_audit.specs.Audits.{IsAudited, Gives, Finds, AuditCause, audit_task};
+ghost use Rattle.proof_audit.specs.Audits.{IsAudited, FileGives, AuditFinds, AuditCause, audit_task};
 ghost use Rattle.proof_audit.specs.Stages.{transcript_read};
 ghost use Rattle.proof_audit.specs.declared.fault.AuditFault.TheVariants as causes;
 
@@ -43,7 +43,7 @@ fn session_finding(
         × IsAudited prover.now task session.now × (task.file ≡ verifier.now) }
     ensures { IfOk result (λ finding. (task : VerifierTask) → task.statement ≡ statement.now
         → (audited : IsAudited prover.now task session.now)
-        → Gives prover.now task.statement (transcript_read task audited.greeting session.now 0 0) finding) }
+        → FileGives prover.now task.statement (transcript_read task audited.greeting session.now 0 0) finding) }
 {
     let held = seen_pairs(alloc, prover, verifier, session)?;
     let pairs = held.as_slice();
@@ -81,7 +81,7 @@ pub fn audit(
     requires digest { AreBytes 32 digest }
     requires public { length public.now ≤ circuit.inputs }
     requires outputs { length outputs.now ≡ circuit.outputs }
-    ensures finding { IfOk result (Finds circuit public.now outputs.now prover.now
+    ensures finding { IfOk result (AuditFinds circuit public.now outputs.now prover.now
         (audit_task circuit digest public.now outputs.now verifier.now) log.now) }
     ensures fault { IfErr result (AuditCause prover.now
         (audit_task circuit digest public.now outputs.now verifier.now) log.now) }

@@ -17,7 +17,7 @@ ghost use Rattle.session_core.specs.Extending.{replies_in, asks_of, replies_of};
 ghost use Rattle.session_core.specs.Jobs.{verifier_of};
 ghost use Rattle.session_core.specs.Judgements.{Finds};
 ghost use Rattle.proof_audit.specs.declared.session.Stage.TheVariants as at;
-ghost use Rattle.proof_audit.specs.Stages.{IsDescribed, expected_at, Takes, Wrongs};
+ghost use Rattle.proof_audit.specs.Stages.{IsDescribed, expected_at, StageTakes, Wrongs};
 
 use crate::session::{Session, Stage};
 use dealer_files::VerifierFile;
@@ -166,7 +166,7 @@ impl<'a> Judge<'a> {
         requires described { IsDescribed self.now stage }
         requires expected { IsSomeAnd (expected_at self.now stage)
             (λ place. Allows place (frame_value frame)) }
-        ensures takes { IfOk result (λ taken. IfSome taken (Takes self.now stage (frame_value frame))) }
+        ensures takes { IfOk result (λ taken. IfSome taken (StageTakes self.now stage (frame_value frame))) }
         ensures wrongs { IfOk result (λ taken. IfNone taken (Wrongs self.now stage (frame_value frame))) }
     {
         match stage {
@@ -201,7 +201,7 @@ impl<'a> Judge<'a> {
         requires expected { IsSomeAnd (expected_at self.now stage.old)
             (λ place. Allows place (frame_value frame)) }
         ensures goes_on { IfOk result (λ goes_on. IsTrue goes_on
-            → Takes self.now stage.old (frame_value frame) stage.new) }
+            → StageTakes self.now stage.old (frame_value frame) stage.new) }
         ensures stops { IfOk result (λ goes_on. IsFalse goes_on
             → Wrongs self.now stage.old (frame_value frame)) }
     {
@@ -217,7 +217,7 @@ impl<'a> Judge<'a> {
     /// A hello is given where it is one for the file and the statement.
     fn take_hello(&self, frame: Frame) -> Option<Stage>
         requires expected { Allows expect.Hello (frame_value frame) }
-        ensures takes { IfSome result (Takes self.now at.Hello (frame_value frame)) }
+        ensures takes { IfSome result (StageTakes self.now at.Hello (frame_value frame)) }
         ensures wrongs { IfNone result (Wrongs self.now at.Hello (frame_value frame)) }
     {
         let Frame::Hello(hello) = frame else {
@@ -250,7 +250,7 @@ impl<'a> Judge<'a> {
     /// A grant is given where it fits. A refusal ends the session.
     fn take_grant(&self, alloc: Global, frame: Frame) -> Option<Stage>
         requires expected { Allows expect.Grant (frame_value frame) }
-        ensures takes { IfSome result (Takes self.now at.Grant (frame_value frame)) }
+        ensures takes { IfSome result (StageTakes self.now at.Grant (frame_value frame)) }
         ensures wrongs { IfNone result (Wrongs self.now at.Grant (frame_value frame)) }
     {
         match frame {
@@ -274,7 +274,7 @@ impl<'a> Judge<'a> {
         requires described { IsDescribed self.now (at.Asks session) }
         requires expected { (left : ℕ) × Allows (expect.Ask self.now.file.params.height
             self.now.file.params.trees left) (frame_value frame) }
-        ensures { IfOk result (Takes self.now (at.Asks session) (frame_value frame)) }
+        ensures { IfOk result (StageTakes self.now (at.Asks session) (frame_value frame)) }
     {
         let session = session.with_ask(frame)?;
         if session.asked.len() < session.grant.count as usize {
@@ -312,7 +312,7 @@ impl<'a> Judge<'a> {
         requires described { IsDescribed self.now (at.Replies session done) }
         requires expected { (left : ℕ) × Allows (expect.Reply self.now.file.params.height
             self.now.file.params.trees left) (frame_value frame) }
-        ensures takes { IfSome result (Takes self.now (at.Replies session done) (frame_value frame)) }
+        ensures takes { IfSome result (StageTakes self.now (at.Replies session done) (frame_value frame)) }
         ensures wrongs { IfNone result (Wrongs self.now (at.Replies session done) (frame_value frame)) }
     {
         if !is_due(&session, done, &frame) {
@@ -332,7 +332,7 @@ impl<'a> Judge<'a> {
         requires described { IsDescribed self.now (at.Corrections session) }
         requires expected { Allows (expect.Corrections self.now.statement.program.givens)
             (frame_value frame) }
-        ensures { Takes self.now (at.Corrections session) (frame_value frame) result }
+        ensures { StageTakes self.now (at.Corrections session) (frame_value frame) result }
     {
         let Frame::Corrections(corrections) = frame else {
             unreachable!();
@@ -346,7 +346,7 @@ impl<'a> Judge<'a> {
     fn take_challenge(&self, session: Session, frame: Frame) -> Option<Stage>
         requires described { IsDescribed self.now (at.Challenge session) }
         requires expected { Allows expect.Challenge (frame_value frame) }
-        ensures takes { IfSome result (Takes self.now (at.Challenge session) (frame_value frame)) }
+        ensures takes { IfSome result (StageTakes self.now (at.Challenge session) (frame_value frame)) }
         ensures wrongs { IfNone result (Wrongs self.now (at.Challenge session) (frame_value frame)) }
     {
         let Frame::Challenge(challenge) = frame else {
@@ -366,7 +366,7 @@ impl<'a> Judge<'a> {
         requires described { IsDescribed self.now (at.Sums session) }
         requires expected { Allows (expect.Sums (section_count self.now.statement.program
             session.grant.section_length)) (frame_value frame) }
-        ensures { Takes self.now (at.Sums session) (frame_value frame) result }
+        ensures { StageTakes self.now (at.Sums session) (frame_value frame) result }
     {
         let Frame::Sums(sums) = frame else {
             unreachable!();
@@ -381,7 +381,7 @@ impl<'a> Judge<'a> {
         requires described { IsDescribed self.now (at.Openings session) }
         requires expected { Allows (expect.Openings (length self.now.statement.program.opened))
             (frame_value frame) }
-        ensures { Takes self.now (at.Openings session) (frame_value frame) result }
+        ensures { StageTakes self.now (at.Openings session) (frame_value frame) result }
     {
         let Frame::Openings(openings) = frame else {
             unreachable!();
@@ -428,7 +428,7 @@ impl<'a> Judge<'a> {
         requires described { IsDescribed self.now (at.Verdict session) }
         requires expected { Allows expect.Verdict (frame_value frame) }
         ensures takes { IfOk result (λ taken.
-            IfSome taken (Takes self.now (at.Verdict session) (frame_value frame))) }
+            IfSome taken (StageTakes self.now (at.Verdict session) (frame_value frame))) }
         ensures wrongs { IfOk result (λ taken.
             IfNone taken (Wrongs self.now (at.Verdict session) (frame_value frame))) }
     {

@@ -3,7 +3,7 @@ ghost use Rattle.std.specs.Prelude.{◌≡◌, ◌≢◌, ◌+◌, ◌<◌, ◌^
 ghost use Rattle.zk_model.specs.Audit.{EndsEarly, IsNotAccepted};
 ghost use Rattle.proof_audit.specs.declared.session.Session.{Session};
 ghost use Rattle.proof_audit.specs.declared.session.Stage.TheVariants as at;
-ghost use Rattle.proof_audit.specs.Sessions.{IsUnderWay, IsReadWhole, IsReadSession, IsFaultOf};
+ghost use Rattle.proof_audit.specs.Sessions.{IsLogUnderWay, IsReadWhole, IsReadSession, IsFaultOf};
 
 use crate::fault::AuditFault;
 use crate::judge::Judge;
@@ -19,14 +19,14 @@ fn read_frames(
     reader: &mut LogReader<'_>,
     stage: &mut Stage,
 ) -> Result<bool, AuditFault>
-    requires under_way { (log : List ℕ) × IsUnderWay judge.now log reader.old stage.old }
+    requires under_way { (log : List ℕ) × IsLogUnderWay judge.now log reader.old stage.old }
     requires short { reader.old.decoder.received + length reader.old.rest.now < 2 ^ 63 }
     ensures whole { IfOk result (λ whole. IsTrue whole → (log : List ℕ)
-        → IsUnderWay judge.now log reader.old stage.old → IsReadWhole judge.now log reader.new stage.new) }
+        → IsLogUnderWay judge.now log reader.old stage.old → IsReadWhole judge.now log reader.new stage.new) }
     ensures early { IfOk result (λ whole. IsFalse whole → (log : List ℕ)
-        → IsUnderWay judge.now log reader.old stage.old → EndsEarly judge.now log) }
+        → IsLogUnderWay judge.now log reader.old stage.old → EndsEarly judge.now log) }
     ensures fault { IfErr result (λ fault. (log : List ℕ)
-        → IsUnderWay judge.now log reader.old stage.old → IsFaultOf judge.now log fault) }
+        → IsLogUnderWay judge.now log reader.old stage.old → IsFaultOf judge.now log fault) }
 {
     'frames: while let Some(place) = judge.expects(stage) {
         let Some(frame) = reader.next(place)? else {

@@ -2,7 +2,7 @@
 ghost use Rattle.std.specs.Prelude.{◌≡◌, ◌+◌, ◌<◌, ◌≤◌, ◌^◌, nat_eq, None, Some, [], length, IfErr, IfNone, IfOk, IfSome};
 ghost use Rattle.proof_frames.specs.Frames.{frame_value};
 ghost use Rattle.proof_frames.specs.Readings.{IsShortPlace};
-ghost use Rattle.proof_audit.specs.Reading.{IsBetween, IsFreshReader, IsFed, IsFedWhole, FindsBad, TakesFrame, StopsEarly, FindsFault};
+ghost use Rattle.proof_audit.specs.Reading.{IsBetweenFrames, IsFreshReader, IsFed, IsFedWhole, FindsBad, TakesFrame, StopsEarly, FindsFault};
 
 use crate::fault::AuditFault;
 use proof_frames::{BadFrame, Decoder, Expect, Frame};
@@ -53,7 +53,7 @@ impl<'a> LogReader<'a> {
 
     /// How many bytes it has read.
     pub fn at(&self) -> u64
-        requires { IsBetween self.now }
+        requires { IsBetweenFrames self.now }
         ensures { result ≡ self.now.decoder.received }
     {
         self.decoder.received()
@@ -72,7 +72,7 @@ impl<'a> LogReader<'a> {
     ///
     /// `LogFault` where a byte is the first after which no such frame can follow, `NoMemory`.
     pub fn next(&mut self, place: Expect) -> Result<Option<Frame>, AuditFault>
-        requires between { IsBetween self.old }
+        requires between { IsBetweenFrames self.old }
         requires short { IsShortPlace place }
         requires fits { self.old.decoder.received + 2 ^ 29 ≤ 2 ^ 64 }
         ensures takes { IfOk result (λ read. IfSome read (λ frame.

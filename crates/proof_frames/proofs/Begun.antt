@@ -1,241 +1,226 @@
--- What is held begins some frame at its place.
-use Rattle.std.proofs.Common.{◌≡◌, ℕ, ◌+◌, ◌-◌, ◌<◌, ◌≤◌, ◌⊎◌, inl, inr, List, [], ◌∷◌, ◌++◌, flat_map, length, take, drop, get_or, replicate, refl, sym, ◌∙◌, ap, arith, length-append, append_assoc, append-nil, subst, take-append-drop, length-drop}
+-- Bytes that begin a frame: one byte more, the front, whole words, what can go on, and the first bad byte.
+use Rattle.std.proofs.Common.{◌≡◌, ℕ, zero, suc, ◌+◌, ◌-◌, ◌<◌, ◌≤◌, ◌⊎◌, inl, inr, List, [], ◌∷◌, ◌++◌, map, length, take, drop, get_or, refl, sym, ◌∙◌, ap, arith, length-append, length-drop, append_assoc, append-nil, subst, take-append-drop}
 use Rattle.std.specs.Prelude.{All}
+use Rattle.std.specs.Int.{w64, from_le_bytes}
 use Rattle.std.proofs.lemmas.Bool.{cases_lt}
-use Rattle.std.proofs.lemmas.List.{take_all, nil_from_length, length-replicate, get_or-drop, get_or_append_left}
-use Rattle.std.proofs.lemmas.List.Elements.{All-nil, All-append, All-cons, All-drop, All-replicate}
-use Rattle.zk_model.specs.Field.{IsElement}
-use Rattle.zk_model.specs.Bytes.{element_bytes}
-use Rattle.zk_model.specs.Transcript.{BeginsWith}
-use Rattle.zk_model.specs.Frames.{CanGoOn}
+use Rattle.std.proofs.lemmas.List.{take_all, take_at, take_more, take-append-le, get_or_push, get_or_append_left}
+use Rattle.std.proofs.lemmas.List.Elements.{All-from_get_or, All-drop, All-get_or}
+use Rattle.zk_model.specs.Field.{prime}
+use Rattle.zk_model.specs.Frames.{CanGoOn, IsFirstBad, frame_length, frame_spelling}
 use Rattle.zk_model.specs.declared.Expect.{Expect}
-use Rattle.zk_model.specs.declared.FrameKind.{FrameKind}
-use Rattle.proof_frames.specs.declared.shape.Level.{Level}
-use Rattle.proof_frames.specs.declared.shape.Payload.{Payload}
-use Rattle.proof_frames.specs.declared.shape.Payload.TheVariants as payload
-use Rattle.proof_frames.specs.declared.shape.Shape.{Shape}
-use Rattle.proof_frames.specs.Shapes.{HoldsPayload, HoldsBytes, HoldsElements, HoldsTrees, IsHeld, level_width, level_most, shape_of, told, header, spelled}
-use Rattle.proof_frames.proofs.EveryShape.{every_shape, told_early, told_stays}
-use Rattle.proof_frames.proofs.Octets.{IsByte, part_of_element}
-use Rattle.proof_frames.proofs.TreeLemmas.{Complete, no_trees, trees_go_on}
-use Rattle.proof_frames.proofs.Words.{FitsPayload, IsWord, IsWordAt, word_whole}
+use Rattle.proof_frames.specs.declared.row.Slot.{Slot}
+use Rattle.proof_frames.specs.declared.row.Slot.TheVariants as slot
+use Rattle.proof_frames.specs.declared.row.Row.{Row}
+use Rattle.proof_frames.specs.Laws.{GoesOnOrIsBad, NeverBoth, WholeWantsNothing, NothingWantedIsWhole}
+use Rattle.proof_frames.specs.Rows.{FitsFields, BeginsFrame, Come, MayFollow, May, row_of, told_at, told, header, payload_length, payload_fields, row_fields, frame_slots, free, exactly}
+use Rattle.proof_frames.proofs.EveryRow.{told_early, told_stays, early_slot, header_tells, sound_at, IsSoundSlot}
+use Rattle.proof_frames.proofs.Fields.{slots, come_fits, fits_come, fits_append, fits_split, exact_fits, fits_exact, payload_sized}
+use Rattle.proof_frames.proofs.Lengths.{told_within, length_told, front_fits, word_length, whole_length}
+use Rattle.proof_frames.proofs.Octets.{IsByte, ends_in_zero}
+use Rattle.proof_frames.proofs.Words.{IsWord, IsWordAt, allowed_word, word_whole}
 
--- some first byte is in the range, and bytes are in it
-abbrev pub IsSound : Payload → Type 0
-IsSound (payload.Bytes count least most) = (1 ≤ count) × (count ≤ 129) × (least ≤ most) × (most < 256)
-IsSound (payload.Elements count) = Unit {0}
-IsSound (payload.Trees trees height level) = Unit {0}
+-- ---- bytes that may come
 
-pub shapes_are_sound : (place : Expect) (byte : ℕ) → IsSound (shape_of place byte).payload
-shapes_are_sound = every_shape (λ place shape. IsSound shape.payload) (omega arith, omega arith, omega arith, omega arith) (omega arith, omega arith, omega arith, omega arith) (omega arith, omega arith, omega arith, omega arith) (omega arith, omega arith, omega arith, omega arith)
-    (λ height trees left. tt) (λ height trees left. tt) (λ count. tt) tt (λ sections. tt) (λ count. tt) (omega arith, omega arith, omega arith, omega arith)
+-- what may come is told by one byte
+retold : (place : Expect) (bytes : List ℕ) (one other : ℕ) → (told_at place < length bytes → one ≡ other) → Come (frame_slots place one) bytes → Come (frame_slots place other) bytes
+retold place bytes one other same come = λ n less.
+    subst (λ (s : Slot). May s (take n bytes) (get_or bytes n 0)) (by_length n less (cases_lt (told_at place) (length bytes))) (come n less)
+  where
+    by_length : (n : ℕ) → n < length bytes → (told_at place < length bytes) ⊎ (length bytes ≤ told_at place) → get_or (frame_slots place one) n free ≡ get_or (frame_slots place other) n free
+    by_length n less (inl some) = ap (λ k. get_or (frame_slots place k) n free) (same some)
+    by_length n less (inr early) = early_slot place one other n (omega arith)
 
--- a header tells its shape
-same_shape : (place : Expect) (byte : ℕ) → shape_of place (told place (header (shape_of place byte))) ≡ shape_of place byte
-same_shape = every_shape (λ place shape. shape_of place (told place (header shape)) ≡ shape) refl refl refl refl
-    (λ height trees left. refl) (λ height trees left. refl) (λ count. refl) refl (λ sections. refl) (λ count. refl) refl
+come_more : (slots : List Slot) (bytes : List ℕ) (byte : ℕ) → Come slots bytes → May (get_or slots (length bytes) free) bytes byte → Come slots (bytes ++ byte ∷ [])
+come_more slots bytes byte come may = λ n less. by_place n less (cases_lt n (length bytes))
+  where
+    by_place : (n : ℕ) → n < length (bytes ++ byte ∷ []) → (n < length bytes) ⊎ (length bytes ≤ n) → May (get_or slots n free) (take n (bytes ++ byte ∷ [])) (get_or (bytes ++ byte ∷ []) n 0)
+    by_place n less (inl early) =
+        subst (λ (q : List ℕ × ℕ). May (get_or slots n free) q.0 q.1)
+        (λ i. (sym (take-append-le n bytes (byte ∷ []) (let k : n ≤ length bytes = omega arith in k)) i, sym (get_or_append_left bytes (byte ∷ []) 0 n early) i)) (come n early)
+    by_place n less (inr late) =
+        let at : length bytes ≡ n = omega (arith, length-append bytes (byte ∷ [])) in
+        subst (λ (q : ℕ × (List ℕ × ℕ)). May (get_or slots q.0 free) q.1.0 q.1.1)
+        (λ i. (at i, (sym (take_at bytes (byte ∷ []) n at) i, sym (get_or_push bytes byte 0 n at) i))) may
 
--- a header and a payload of its shape are a word
-word_of : (place : Expect) (byte : ℕ) (bytes : List ℕ) → FitsPayload (shape_of place byte).payload bytes
-    → IsWordAt place (header (shape_of place byte) ++ bytes)
-word_of place byte bytes fits =
-    let head = header (shape_of place byte) in
-    let early = told_early place in
-    let told_so : shape_of place (told place (head ++ bytes)) ≡ shape_of place byte =
-    ap (shape_of place) (told_stays place head bytes (omega arith)) ∙ same_shape place byte in
-    subst (λ (shape : Shape). IsWord shape (head ++ bytes)) (sym told_so) (record { payload = bytes; fits = fits; spelled = refl })
+come_fewer : (slots : List Slot) (bytes more : List ℕ) → Come slots (bytes ++ more) → Come slots bytes
+come_fewer slots bytes more come = λ n less.
+    subst (λ (q : List ℕ × ℕ). May (get_or slots n free) q.0 q.1)
+    (λ i. (take-append-le n bytes more (let k : n ≤ length bytes = omega arith in k) i, get_or_append_left bytes more 0 n less i)) (come n (omega (arith, length-append bytes more)))
 
--- what begins a word can go on
-begins : (place : Expect) (word bytes : List ℕ) → IsWordAt place word → BeginsWith word bytes → CanGoOn place bytes
-begins place word bytes is begun =
-    let whole = word_whole place word is in
-    record { frame = whole.0; allowed = whole.1.allowed; begun = (begun.0, sym whole.1.spelled ∙ begun.1) }
+-- ---- bytes that begin a frame
 
--- the bytes of elements, and of more
-pub flat_map_append : (elements others : List ℕ)
-    → flat_map element_bytes (elements ++ others) ≡ flat_map element_bytes elements ++ flat_map element_bytes others
-flat_map_append [] others = refl
-flat_map_append (element ∷ elements) others =
-    ap (λ l. element_bytes element ++ l) (flat_map_append elements others)
-    ∙ sym (append_assoc (element_bytes element) (flat_map element_bytes elements) (flat_map element_bytes others))
+-- nothing does
+pub nothing_begins : (place : Expect) → BeginsFrame place []
+nothing_begins place = record { within = omega arith; each = λ n less. absurd (omega arith) }
 
--- some trees
-some_trees : (count width most : ℕ) → Complete count width most []
-some_trees count width most = trees_go_on count width most [] (All-nil IsByte) (no_trees count width most)
+-- and so do one byte more that may come
+pub begins_more : (place : Expect) (bytes : List ℕ) (byte : ℕ) → BeginsFrame place bytes → length (bytes ++ byte ∷ []) ≤ frame_length place (bytes ++ byte ∷ [])
+    → MayFollow place bytes byte → BeginsFrame place (bytes ++ byte ∷ [])
+begins_more place bytes byte begun within follows =
+    let all : List ℕ = bytes ++ byte ∷ [] in
+    record {
+      within = within;
+      each = come_more (frame_slots place (told place all)) bytes byte
+          (retold place bytes (told place bytes) (told place all) (λ some. sym (told_stays place bytes (byte ∷ []) some)) begun.each) follows;
+    }
 
--- some payload
-some_payload : Payload → List ℕ
-some_payload (payload.Bytes count least most) = least ∷ replicate (count - 1) 0
-some_payload (payload.Elements count) = flat_map element_bytes (replicate count 0)
-some_payload (payload.Trees trees height level) = (some_trees trees (level_width level height) (level_most level)).payload
-
-some_fits : (p : Payload) → IsSound p → FitsPayload p (some_payload p)
-unfolding some_payload
-some_fits (payload.Bytes count least most) sound = record {
-  counted = let sized = length-replicate {A = ℕ} (count - 1) 0 in omega arith;
-  ranged = All-cons IsByte least (replicate (count - 1) 0) (omega arith) (All-replicate IsByte (count - 1) 0 (omega arith));
-  low = omega arith;
-  high = sound.2;
+-- and fewer
+begins_front : (place : Expect) (bytes more : List ℕ) → BeginsFrame place (bytes ++ more) → BeginsFrame place bytes
+begins_front place bytes more begun = record {
+  within = front_fits place bytes more begun.within;
+  each = retold place bytes (told place (bytes ++ more)) (told place bytes) (told_stays place bytes more) (come_fewer (frame_slots place (told place (bytes ++ more))) bytes more begun.each);
 }
-some_fits (payload.Elements count) sound = record {
-  elements = replicate count 0;
-  are = record { counted = length-replicate {A = ℕ} count 0; ranged = All-replicate IsElement count 0 (omega arith) };
-  spelled = refl;
-}
-some_fits (payload.Trees trees height level) sound = (some_trees trees (level_width level height) (level_most level)).fits
 
--- a payload that goes on with what is held
-abbrev Completes : FrameKind → Payload → List ℕ → Type 0
-Completes k p bytes = (rest : List ℕ) × FitsPayload p rest × BeginsWith (header (record { kind = k; payload = p }) ++ rest) bytes
+pub begins_fewer : (place : Expect) (bytes : List ℕ) (n : ℕ) → BeginsFrame place bytes → BeginsFrame place (take n bytes)
+begins_fewer place bytes n begun = begins_front place (take n bytes) (drop n bytes) (subst (BeginsFrame place) (sym (take-append-drop n bytes)) begun)
 
--- as long as there is no payload
-early : (k : FrameKind) (p : Payload) (start elements part : List ℕ) → IsSound p → length start ≤ 5
-    → take 5 start ≡ take (length start) (header (record { kind = k; payload = p })) → elements ≡ [] → part ≡ []
-    → Completes k p (spelled start elements part)
-early k p start elements part sound short begun no_elements no_part =
-    let head = header (record { kind = k; payload = p }) in
-    let front : start ≡ take (length start) head = sym (take_all 5 start short) ∙ begun in
-    let bytes : spelled start elements part ≡ start =
-    (λ i. start ++ flat_map element_bytes (no_elements i) ++ no_part i) ∙ append-nil (start ++ []) ∙ append-nil start in (
-      some_payload p,
-      some_fits p sound,
-      (
-        drop (length start) head ++ some_payload p,
-        ap (λ l. l ++ some_payload p) (sym (take-append-drop (length start) head))
-            ∙ append_assoc (take (length start) head) (drop (length start) head) (some_payload p)
-            ∙ ap (λ l. l ++ (drop (length start) head ++ some_payload p)) (sym front ∙ sym bytes),
-      ),
-    )
+-- all of them are bytes
+come_bytes : (place : Expect) (byte : ℕ) (bytes : List ℕ) → Come (frame_slots place byte) bytes → All IsByte bytes
+come_bytes place byte bytes come = All-from_get_or IsByte bytes 0 (λ n less.
+    small (get_or (frame_slots place byte) n free) n (take n bytes) (get_or bytes n 0) (sound_at place byte n) (come n less))
+  where
+    small : (s : Slot) (n : ℕ) (before : List ℕ) (byte : ℕ) → IsSoundSlot n s → May s before byte → byte < 256
+    small (slot.Range least most) n before byte sound may = let high = may.1 in omega arith
+    small slot.Last n before byte sound may = may.0
 
--- after the header, of bytes
-late_bytes : (k : FrameKind) (count least most : ℕ) (start elements part : List ℕ) → 5 < length start
-    → take 5 start ≡ take (length start) (header (record { kind = k; payload = payload.Bytes count least most })) → All IsByte start
-    → HoldsBytes count least most start elements part → Completes k (payload.Bytes count least most) (spelled start elements part)
-late_bytes k count least most start elements part long begun all holds =
-    let head = header (record { kind = k; payload = payload.Bytes count least most }) in
-    let zeros : List ℕ = replicate (5 + count - length start) 0 in
-    let within = holds.within in
-    let sized : length zeros ≡ 5 + count - length start = length-replicate {A = ℕ} (5 + count - length start) 0 in
-    let whole : take 5 start ≡ head = begun ∙ take_all (length start) head (omega arith) in
-    let first : get_or (drop 5 start ++ zeros) 0 0 ≡ get_or start 5 0 =
-    get_or_append_left (drop 5 start) zeros 0 0 (omega (arith, length-drop 5 start)) ∙ get_or-drop 5 start 0 0 in
-    let range = holds.ranged long in
-    let bytes : spelled start elements part ≡ start =
-    (λ i. start ++ flat_map element_bytes (holds.no_elements i) ++ holds.no_part i) ∙ append-nil (start ++ []) ∙ append-nil start in (
-      drop 5 start ++ zeros,
+-- ---- whole words
+
+pub word_begins : (place : Expect) (word : List ℕ) → IsWordAt place word → BeginsFrame place word
+word_begins place word is =
+    let row = row_of place (told place word) in
+    record {
+      within = omega (arith, word_length place word is);
+      each = fits_come (row_fields row) [] word
+          (subst (FitsFields (row_fields row)) (sym is.spelled) (fits_append (map exactly (header row)) (payload_fields row.payload) (header row) is.payload (exact_fits (header row)) is.fits));
+    }
+
+-- bytes that come and are as many as a row has
+come_word : (place : Expect) (byte : ℕ) (word : List ℕ) → Come (frame_slots place byte) word → length word ≡ 5 + payload_length (row_of place byte).payload → IsWordAt place word
+come_word place byte word come whole =
+    let row = row_of place byte in
+    let all : length word ≡ length (slots (row_fields row)) = omega (arith, whole, payload_sized row.payload) in
+    let apart = fits_split (map exactly (header row)) (payload_fields row.payload) word (come_fits (row_fields row) [] word come all) in
+    let spelled : word ≡ header row ++ apart.1 = apart.2 ∙ ap (λ l. l ++ apart.1) (fits_exact (header row) apart.0 apart.3) in
+    let same : row_of place (told place word) ≡ row =
+    ap (row_of place) (ap (told place) spelled ∙ told_stays place (header row) apart.1 (omega (arith, told_early place))) ∙ header_tells place byte in
+    subst (λ (r : Row). IsWord r word) (sym same) (record { payload = apart.1; fits = apart.4; spelled = spelled })
+
+pub begins_word : (place : Expect) (word : List ℕ) → BeginsFrame place word → length word ≡ frame_length place word → IsWordAt place word
+begins_word place word begun whole =
+    come_word place (told place word) word begun.each (whole ∙ length_told place word (omega (arith, told_within place word)))
+
+-- ---- what can go on
+
+-- some byte that may come
+least_of : Slot → ℕ
+least_of (slot.Range least most) = least
+least_of slot.Last = 0
+
+may_least : (s : Slot) (bytes : List ℕ) → IsSoundSlot (length bytes) s → All IsByte bytes → May s bytes (least_of s)
+unfolding least_of
+may_least (slot.Range least most) bytes sound all = (omega arith, sound.0)
+may_least slot.Last bytes sound all =
+    (omega arith, ends_in_zero (drop (length bytes - 7) bytes) (omega (arith, length-drop (length bytes - 7) bytes)) (All-drop IsByte (length bytes - 7) bytes all))
+
+-- so many more may come
+goes_on : (place : Expect) (byte many : ℕ) (bytes : List ℕ) → Come (frame_slots place byte) bytes → (rest : List ℕ) × Come (frame_slots place byte) (bytes ++ rest) × (length rest ≡ many)
+goes_on place byte zero bytes come = ([], subst (Come (frame_slots place byte)) (sym (append-nil bytes)) come, refl)
+goes_on place byte (suc many) bytes come =
+    let s = get_or (frame_slots place byte) (length bytes) free in
+    let next = least_of s in
+    let more = goes_on place byte many (bytes ++ next ∷ [])
+    (come_more (frame_slots place byte) bytes next come (may_least s bytes (sound_at place byte (length bytes)) (come_bytes place byte bytes come))) in
+    (next ∷ more.0, subst (Come (frame_slots place byte)) (append_assoc bytes (next ∷ []) more.0) more.1, ap suc more.2)
+
+pub begins_can : (place : Expect) (bytes : List ℕ) → BeginsFrame place bytes → CanGoOn place bytes
+begins_can place bytes begun =
+    let all = 5 + payload_length (row_of place (told place bytes)).payload in
+    let few : length bytes ≤ all = by_length (cases_lt (told_at place) (length bytes)) in
+    let on = goes_on place (told place bytes) (all - length bytes) bytes begun.each in
+    let word : List ℕ = bytes ++ on.0 in
+    let whole = word_whole place word (come_word place (told place bytes) word on.1 (omega (arith, few, on.2, length-append bytes on.0))) in
+    record { frame = whole.0; allowed = whole.1.allowed; begun = (on.0, sym whole.1.spelled) }
+  where
+    by_length : (told_at place < length bytes) ⊎ (length bytes ≤ told_at place) → length bytes ≤ 5 + payload_length (row_of place (told place bytes)).payload
+    by_length (inl some) = let within = begun.within in omega (arith, length_told place bytes some)
+    by_length (inr early) = omega (arith, early, told_early place)
+
+pub can_begins : (place : Expect) (bytes : List ℕ) → CanGoOn place bytes → BeginsFrame place bytes
+can_begins place bytes can =
+    begins_front place bytes can.begun.0 (subst (BeginsFrame place) can.begun.1 (word_begins place (frame_spelling can.frame) (allowed_word place can.frame can.allowed)))
+
+-- a byte that may not come is bad
+pub ends_here : (place : Expect) (bytes : List ℕ) (byte : ℕ) → ¬ MayFollow place bytes byte → ¬ CanGoOn place (bytes ++ byte ∷ [])
+ends_here place bytes byte stops = λ can.
+    let here = (can_begins place (bytes ++ byte ∷ []) can).each (length bytes) (omega (arith, length-append bytes (byte ∷ []))) in
+    stops (subst (λ (q : List ℕ × ℕ). May (get_or (frame_slots place (told place (bytes ++ byte ∷ []))) (length bytes) free) q.0 q.1)
+    (λ i. (take_at bytes (byte ∷ []) (length bytes) refl i, get_or_push bytes byte 0 (length bytes) refl i)) here)
+
+-- ---- the first bad byte
+
+may_or_not : (s : Slot) (before : List ℕ) (byte : ℕ) → byte < 256 → May s before byte ⊎ (¬ May s before byte)
+may_or_not (slot.Range least most) before byte small = by_order (cases_lt byte least) (cases_lt most byte)
+  where
+    by_order : (byte < least) ⊎ (least ≤ byte) → (most < byte) ⊎ (byte ≤ most) → May (slot.Range least most) before byte ⊎ (¬ May (slot.Range least most) before byte)
+    by_order (inl below) high = inr (λ may. let low = may.0 in omega arith)
+    by_order (inr low) (inl above) = inr (λ may. let high = may.1 in omega arith)
+    by_order (inr low) (inr high) = inl (low, high)
+may_or_not slot.Last before byte small = by_order (cases_lt (from_le_bytes w64 (drop (length before - 7) before ++ byte ∷ [])) prime)
+  where
+    by_order : (from_le_bytes w64 (drop (length before - 7) before ++ byte ∷ []) < prime) ⊎ (prime ≤ from_le_bytes w64 (drop (length before - 7) before ++ byte ∷ []))
+        → May slot.Last before byte ⊎ (¬ May slot.Last before byte)
+    by_order (inl below) = inl (small, below)
+    by_order (inr above) = inr (λ may. let below = may.1 in omega arith)
+
+-- up to any of the bytes they begin a frame, or one is bad
+run : (place : Expect) (bytes : List ℕ) → All IsByte bytes → length bytes ≤ frame_length place bytes → (n : ℕ) → n ≤ length bytes
+    → BeginsFrame place (take n bytes) ⊎ ((m : ℕ) × IsFirstBad place bytes m)
+run place bytes all within zero most = inl (nothing_begins place)
+run place bytes all within (suc n) most = on (run place bytes all within n (omega arith))
+  where
+    byte : ℕ
+    byte = get_or bytes n 0
+
+    before : List ℕ
+    before = take n bytes
+
+    more : take (suc n) bytes ≡ before ++ byte ∷ []
+    more = ap (λ k. take k bytes) (let e : suc n ≡ n + 1 = omega arith in e) ∙ take_more bytes n 0 (omega arith)
+
+    after : BeginsFrame place before → MayFollow place before byte ⊎ (¬ MayFollow place before byte) → BeginsFrame place (take (suc n) bytes) ⊎ ((m : ℕ) × IsFirstBad place bytes m)
+    after begun (inl follows) =
+        inl (subst (BeginsFrame place) (sym more) (begins_more place before byte begun
+        (front_fits place (before ++ byte ∷ []) (drop (suc n) bytes)
+        (subst (λ (l : List ℕ). length l ≤ frame_length place l) (sym (take-append-drop (suc n) bytes) ∙ ap (λ l. l ++ drop (suc n) bytes) more) within)) follows))
+    after begun (inr stops) = inr (
+      n,
       record {
-        counted = omega (arith, length-append (drop 5 start) zeros, length-drop 5 start);
-        ranged = All-append IsByte (drop 5 start) zeros (All-drop IsByte 5 start all) (All-replicate IsByte (5 + count - length start) 0 (omega arith));
-        low = rw first range.0;
-        high = rw first range.1;
+        within = omega arith;
+        before = begins_can place before begun;
+        ends = λ can. ends_here place before byte stops (subst (CanGoOn place) (ap (λ k. take k bytes) (let e : n + 1 ≡ suc n = omega arith in e) ∙ more) can);
       },
-      (
-        zeros,
-        sym (append_assoc head (drop 5 start) zeros) ∙ ap (λ l. (l ++ drop 5 start) ++ zeros) (sym whole) ∙ ap (λ l. l ++ zeros) (take-append-drop 5 start ∙ sym bytes),
-      ),
     )
 
--- after the header, of elements
-late_elements : (k : FrameKind) (count : ℕ) (start elements part : List ℕ) → 5 ≤ length start
-    → take 5 start ≡ take (length start) (header (record { kind = k; payload = payload.Elements count })) → All IsByte part
-    → HoldsElements count start elements part → Completes k (payload.Elements count) (spelled start elements part)
-late_elements k count start elements part long begun all holds = by_count (cases_lt (length elements) count)
+    on : BeginsFrame place before ⊎ ((m : ℕ) × IsFirstBad place bytes m) → BeginsFrame place (take (suc n) bytes) ⊎ ((m : ℕ) × IsFirstBad place bytes m)
+    on (inl begun) = after begun
+        (may_or_not (get_or (frame_slots place (told place (before ++ byte ∷ []))) (length before) free) before byte (All-get_or IsByte bytes n 0 (omega arith) all))
+    on (inr bad) = inr bad
+
+pub goes_on_or_is_bad : GoesOnOrIsBad
+goes_on_or_is_bad place bytes all within = last (run place bytes all within (length bytes) (omega arith))
   where
-    head : List ℕ
-    head = header (record { kind = k; payload = payload.Elements count })
+    last : BeginsFrame place (take (length bytes) bytes) ⊎ ((m : ℕ) × IsFirstBad place bytes m) → CanGoOn place bytes ⊎ ((m : ℕ) × IsFirstBad place bytes m)
+    last (inl begun) = inl (subst (CanGoOn place) (take_all (length bytes) bytes (omega arith)) (begins_can place (take (length bytes) bytes) begun))
+    last (inr bad) = inr bad
 
-    front : head ≡ start
-    front = let short = holds.header in
-        sym (begun ∙ take_all (length start) head (omega arith)) ∙ take_all 5 start short
+pub never_both : NeverBoth
+never_both place bytes n can bad = bad.ends (begins_can place (take (n + 1) bytes) (begins_fewer place bytes (n + 1) (can_begins place bytes can)))
 
-    by_count : (length elements < count) ⊎ (count ≤ length elements) → Completes k (payload.Elements count) (spelled start elements part)
-    by_count (inl less) =
-        let next = part_of_element part holds.partial all in
-        let zeros : List ℕ = replicate (8 - length part) 0 in
-        let others : List ℕ = replicate (count - length elements - 1) 0 in
-        let sized : length others ≡ count - length elements - 1 = length-replicate {A = ℕ} (count - length elements - 1) 0 in
-        let bytes : List ℕ = flat_map element_bytes elements in
-        let all_bytes : flat_map element_bytes (elements ++ next.0 ∷ others) ≡ (bytes ++ part) ++ (zeros ++ flat_map element_bytes others) =
-        flat_map_append elements (next.0 ∷ others)
-        ∙ ap (λ l. bytes ++ (l ++ flat_map element_bytes others)) next.2
-        ∙ ap (λ l. bytes ++ l) (append_assoc part zeros (flat_map element_bytes others))
-        ∙ sym (append_assoc bytes part (zeros ++ flat_map element_bytes others)) in (
-          flat_map element_bytes (elements ++ next.0 ∷ others),
-          record {
-            elements = elements ++ next.0 ∷ others;
-            are = record {
-              counted = omega (arith, length-append elements (next.0 ∷ others));
-              ranged = All-append IsElement elements (next.0 ∷ others) holds.ranged
-                  (All-cons IsElement next.0 others next.1 (All-replicate IsElement (count - length elements - 1) 0 (omega arith)));
-            };
-            spelled = refl;
-          },
-          (
-            zeros ++ flat_map element_bytes others,
-            (λ i. front i ++ all_bytes i)
-                ∙ sym (append_assoc start (bytes ++ part) (zeros ++ flat_map element_bytes others))
-                ∙ ap (λ l. l ++ (zeros ++ flat_map element_bytes others)) (sym (append_assoc start bytes part)),
-          ),
-        )
-    by_count (inr all_there) =
-        let within = holds.within in
-        let bytes : List ℕ = flat_map element_bytes elements in
-        let none : part ≡ [] = nil_from_length part (omega arith) in (
-          bytes,
-          record {
-            elements = elements;
-            are = record { counted = omega arith; ranged = holds.ranged };
-            spelled = refl;
-          },
-          (
-            [],
-            ap (λ l. l ++ bytes) front ∙ sym (append-nil (start ++ bytes)) ∙ ap (λ l. start ++ bytes ++ l) (sym none) ∙ sym (append-nil (start ++ bytes ++ part)),
-          ),
-        )
+pub whole_wants_nothing : WholeWantsNothing
+whole_wants_nothing place bytes frame whole = omega (arith, whole_length place bytes frame whole)
 
--- after the header, of trees
-late_trees : (k : FrameKind) (trees height : ℕ) (level : Level) (start elements part : List ℕ) → 5 ≤ length start
-    → take 5 start ≡ take (length start) (header (record { kind = k; payload = payload.Trees trees height level })) → All IsByte start
-    → HoldsTrees trees (level_width level height) (level_most level) start elements part
-    → Completes k (payload.Trees trees height level) (spelled start elements part)
-late_trees k trees height level start elements part long begun all holds =
-    let head = header (record { kind = k; payload = payload.Trees trees height level }) in
-    let whole : take 5 start ≡ head = begun ∙ take_all (length start) head (omega arith) in
-    let done = trees_go_on trees (level_width level height) (level_most level) (drop 5 start) (All-drop IsByte 5 start all) holds.begins in
-    let bytes : spelled start elements part ≡ start =
-    (λ i. start ++ flat_map element_bytes (holds.no_elements i) ++ holds.no_part i) ∙ append-nil (start ++ []) ∙ append-nil start in (
-      done.payload,
-      done.fits,
-      (
-        done.rest,
-        ap (λ l. head ++ l) done.begun ∙ sym (append_assoc head (drop 5 start) done.rest) ∙ ap (λ l. (l ++ drop 5 start) ++ done.rest) (sym whole)
-            ∙ ap (λ l. l ++ done.rest) (take-append-drop 5 start ∙ sym bytes),
-      ),
-    )
-
-completes : (k : FrameKind) (p : Payload) (start elements part : List ℕ) → IsSound p
-    → take 5 start ≡ take (length start) (header (record { kind = k; payload = p })) → All IsByte start → All IsByte part
-    → HoldsPayload p start elements part → Completes k p (spelled start elements part)
-completes k (payload.Bytes count least most) start elements part sound begun all all_part holds = by_length (cases_lt 5 (length start))
-  where
-    by_length : (5 < length start) ⊎ (length start ≤ 5) → Completes k (payload.Bytes count least most) (spelled start elements part)
-    by_length (inl long) = late_bytes k count least most start elements part long begun all holds
-    by_length (inr short) = early k (payload.Bytes count least most) start elements part sound short begun holds.no_elements holds.no_part
-completes k (payload.Elements count) start elements part sound begun all all_part holds = by_length (cases_lt (length start) 5)
-  where
-    by_length : (length start < 5) ⊎ (5 ≤ length start) → Completes k (payload.Elements count) (spelled start elements part)
-    by_length (inl short) = early k (payload.Elements count) start elements part sound (omega arith) begun (holds.first short).0 (holds.first short).1
-    by_length (inr long) = late_elements k count start elements part long begun all_part holds
-completes k (payload.Trees trees height level) start elements part sound begun all all_part holds = by_length (cases_lt (length start) 5)
-  where
-    by_length : (length start < 5) ⊎ (5 ≤ length start) → Completes k (payload.Trees trees height level) (spelled start elements part)
-    by_length (inl short) = early k (payload.Trees trees height level) start elements part sound (omega arith) begun holds.no_elements holds.no_part
-    by_length (inr long) = late_trees k trees height level start elements part long begun all holds
-
--- what is held can go on
-pub held_goes_on : (place : Expect) (start elements part : List ℕ) → IsHeld place start elements part → CanGoOn place (spelled start elements part)
-held_goes_on place start elements part held =
-    let byte = told place start in
-    let shape = shape_of place byte in
-    let done = completes shape.kind shape.payload start elements part (shapes_are_sound place byte) held.begun held.bytes held.part_bytes held.payload in
-    begins place (header shape ++ done.0) (spelled start elements part) (word_of place byte done.0 done.1) done.2
+pub nothing_wanted_is_whole : NothingWantedIsWhole
+nothing_wanted_is_whole place bytes can none =
+    let begun = can_begins place bytes can in
+    let within = begun.within in
+    word_whole place bytes (begins_word place bytes begun (omega arith))

@@ -26,26 +26,6 @@ pub frame_is : (kind : FrameKind) (count : ℕ) (begun whole payload : List ℕ)
 frame_is kind count begun whole payload counted first all =
     all ∙ (λ i. first i ++ payload) ∙ ap (λ n. (kind_number kind ∷ to_le_bytes w32 n) ++ payload) counted
 
--- the sums of one more section
-pub sums_more : (sums : List (ℕ × ℕ)) (i : ℕ) (both : ℕ × ℕ) (old before one two a b : List ℕ) → i < length sums → both ≡ get_or sums i both
-    → before ≡ old ++ sums_payload (take i sums) → one ≡ before ++ a → two ≡ one ++ b → a ≡ element_bytes both.0 → b ≡ element_bytes both.1
-    → two ≡ old ++ sums_payload (take (i + 1) sums)
-sums_more sums i both old before one two a b within at far first second is_a is_b =
-    let bytes = λ (q : ℕ × ℕ). element_bytes q.0 ++ element_bytes q.1 in
-    let last : take i sums ++ both ∷ [] ≡ take (i + 1) sums = ap (λ q. take i sums ++ q ∷ []) at ∙ sym (take_more sums i both within) in
-    second ∙ (λ j. (first ∙ (λ k. far k ++ is_a k)) j ++ is_b j)
-    ∙ append_assoc (old ++ sums_payload (take i sums)) (element_bytes both.0) (element_bytes both.1)
-    ∙ flat_map_more bytes old (take i sums) both
-    ∙ ap (λ l. old ++ flat_map bytes l) last
-
--- the bytes of one element more
-pub elements_more : (elements : List ℕ) (i element : ℕ) (old before now a : List ℕ) → i < length elements → element ≡ get_or elements i element
-    → before ≡ old ++ flat_map element_bytes (take i elements) → now ≡ before ++ a → a ≡ element_bytes element
-    → now ≡ old ++ flat_map element_bytes (take (i + 1) elements)
-elements_more elements i element old before now a within at far pushed is_a =
-    let last : take i elements ++ element ∷ [] ≡ take (i + 1) elements = ap (λ q. take i elements ++ q ∷ []) at ∙ sym (take_more elements i element within) in
-    pushed ∙ (λ j. far j ++ is_a j) ∙ flat_map_more element_bytes old (take i elements) element ∙ ap (λ l. old ++ flat_map element_bytes l) last
-
 -- the payloads of short frames
 pub short_elements : (frame : model.Frame) (kind : FrameKind) (elements given : List ℕ) → IsShort frame → frame_spelling frame ≡ frame_bytes kind (flat_map element_bytes elements)
     → given ≡ elements → 8 * length given ≤ 2 ^ 28

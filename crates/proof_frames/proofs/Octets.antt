@@ -1,11 +1,11 @@
 -- Bytes, and the numbers that they say.
-use Rattle.std.proofs.Common.{◌≡◌, ℕ, zero, suc, ◌-◌, ◌/◌, ◌%◌, ◌^◌, ◌<◌, ◌≤◌, ◌⊎◌, inl, inr, List, ◌++◌, length, get_or, refl, sym, ◌∙◌, ap, arith, length-append, replicate, subst}
+use Rattle.std.proofs.Common.{◌≡◌, ℕ, ◌/◌, ◌%◌, ◌^◌, ◌<◌, ◌≤◌, ◌⊎◌, inl, inr, List, [], ◌∷◌, ◌++◌, length, get_or, refl, sym, ◌∙◌, ap, arith, length-append, subst}
 use Rattle.std.specs.Prelude.{All}
 use Rattle.std.specs.Int.{w32, w64, from_le_bytes, to_le_bytes}
 use Rattle.std.proofs.lemmas.Bool.{cases_lt}
 use Rattle.std.proofs.lemmas.Nat.{le_bytes_4, le_bytes_8, from_le_bytes-to_le_bytes_8}
-use Rattle.std.proofs.lemmas.List.{length-replicate, get_or_past, get_or-append_right}
-use Rattle.std.proofs.lemmas.List.Elements.{All-get_or, All-from_recursion, All-append, All-replicate}
+use Rattle.std.proofs.lemmas.List.{get_or_past, get_or_push}
+use Rattle.std.proofs.lemmas.List.Elements.{All-get_or, All-from_recursion, All-push}
 use Rattle.zk_model.specs.Field.{IsElement}
 use Rattle.zk_model.specs.Bytes.{element_bytes}
 
@@ -48,25 +48,16 @@ half_octets n = All-from_recursion IsByte (to_le_bytes w32 n) (below n, (below (
     below : (n : ℕ) → n % 256 < 256
     below n = omega arith
 
--- part of an element, which zeros make whole
-abbrev pub padded : List ℕ → List ℕ
-padded part = part ++ replicate (8 - length part) 0
-
--- at most 7 bytes begin the bytes of an element
-pub part_of_element : (part : List ℕ) → length part < 8 → All IsByte part
-    → (element : ℕ) × IsElement element × (element_bytes element ≡ padded part)
-part_of_element part less all =
-    let zeros : List ℕ = replicate (8 - length part) 0 in
-    let all_padded : All IsByte (padded part) = All-append IsByte part zeros all (All-replicate IsByte (8 - length part) 0 (omega arith)) in
-    let sized : length (padded part) ≡ 8 = omega (arith, length-append part zeros, length-replicate {A = ℕ} (8 - length part) 0) in
-    let at = byte_at (padded part) all_padded in
-    let last : get_or (padded part) 7 0 ≡ 0 = get_or-append_right part zeros (length part) 7 0 refl (omega arith) ∙ zero_at (8 - length part) (7 - length part) in
-    (from_le_bytes w64 (padded part), omega (arith, at 0, at 1, at 2, at 3, at 4, at 5, at 6, last), back_64 (padded part) sized all_padded)
+-- at most seven bytes and a zero say an element
+pub ends_in_zero : (seven : List ℕ) → length seven ≤ 7 → All IsByte seven → IsElement (from_le_bytes w64 (seven ++ 0 ∷ []))
+ends_in_zero seven short all =
+    let at = byte_at (seven ++ 0 ∷ []) (All-push IsByte seven 0 all (omega arith)) in
+    let last : get_or (seven ++ 0 ∷ []) 7 0 ≡ 0 = by_length (cases_lt (length seven) 7) in
+    omega (arith, at 0, at 1, at 2, at 3, at 4, at 5, at 6, last)
   where
-    zero_at : (n i : ℕ) → get_or {A = ℕ} (replicate n 0) i 0 ≡ 0
-    zero_at zero i = refl
-    zero_at (suc n) zero = refl
-    zero_at (suc n) (suc i) = zero_at n i
+    by_length : (length seven < 7) ⊎ (7 ≤ length seven) → get_or (seven ++ 0 ∷ []) 7 0 ≡ 0
+    by_length (inl less) = get_or_past (seven ++ 0 ∷ []) 7 0 (omega (arith, length-append seven (0 ∷ [])))
+    by_length (inr whole) = get_or_push seven 0 0 7 (omega arith)
 
 -- the bytes of an element say one
 pub says_element : (eight : List ℕ) (element : ℕ) → IsElement element → eight ≡ element_bytes element → IsElement (from_le_bytes w64 eight)

@@ -1,5 +1,6 @@
 -- What is held where a piece has a bad byte, and what that says of all bytes that were wanted.
-use Rattle.std.proofs.Common.{◌≡◌, ℕ, ◌+◌, ◌-◌, ◌≤◌, List, [], ◌∷◌, ◌++◌, length, take, drop, get_or, sym, ◌∙◌, ap, arith, length-append, append_assoc, subst}
+use Rattle.std.proofs.Common.{◌≡◌, ℕ, ◌+◌, ◌-◌, ◌≤◌, List, [], ◌∷◌, ◌++◌, length, take, drop, get_or, refl, sym, ◌∙◌, ap, arith, length-append, append_assoc, subst}
+use Rattle.std.proofs.Math.Seq.{take-append-add}
 use Rattle.std.proofs.lemmas.List.{take_at}
 use Rattle.zk_model.specs.Frames.{CanGoOn}
 use Rattle.zk_model.specs.declared.Expect.{Expect}
@@ -7,13 +8,9 @@ use Rattle.proof_frames.specs.Holding.{Holds, StopsAt, bytes_of}
 use Rattle.proof_frames.specs.declared.held.Held.{Held}
 
 -- the front of bytes of which others are the front, too
-pub front : (n : ℕ) (one rest other piece : List ℕ) → one ++ rest ≡ other ++ piece → length one ≡ length other + n → one ≡ other ++ take n piece
-front n one rest [] piece same sized = sym (take_at one rest n (omega (arith, sized))) ∙ ap (take n) same
-front n [] rest (y ∷ other) piece same sized = absurd (omega arith)
-front n (x ∷ one) rest (y ∷ other) piece same sized =
-    let first : x ≡ y = ap (λ l. get_or l 0 0) same in
-    let behind : one ≡ other ++ take n piece = front n one rest other piece (ap (drop 1) same) (omega arith) in
-    λ i. first i ∷ behind i
+front : (n : ℕ) (one rest other piece : List ℕ) → one ++ rest ≡ other ++ piece → length one ≡ length other + n → one ≡ other ++ take n piece
+front n one rest other piece same sized =
+    sym (take_at one rest (length one) refl) ∙ (λ i. take (sized i) (same i)) ∙ take-append-add other piece n
 
 -- a list that is not empty
 split : (rest : List ℕ) (byte : ℕ) → 1 ≤ length rest → byte ≡ get_or rest 0 0 → rest ≡ byte ∷ drop 1 rest

@@ -30,10 +30,6 @@ flattened_paired (suc sections) (x ∷ []) even = absurd (omega arith)
 flattened_paired zero (x ∷ y ∷ elements) even = absurd (omega arith)
 flattened_paired (suc sections) (x ∷ y ∷ elements) even = ap (λ l. x ∷ y ∷ l) (flattened_paired sections elements (omega arith))
 
-pub length-paired : (sections : ℕ) (elements : List ℕ) → length elements ≡ 2 * sections → length (paired elements) ≡ sections
-length-paired sections elements even =
-    omega (arith, length-flattened (paired elements), ap length (flattened_paired sections elements even))
-
 pub paired_elements : (sums : List (ℕ × ℕ)) → AllByRecursion IsElement (flattened sums) → AllByRecursion (λ both. IsElement both.0 × IsElement both.1) sums
 paired_elements [] all = tt
 paired_elements (both ∷ sums) all = ((all.0, all.1.0), paired_elements sums all.1.1)

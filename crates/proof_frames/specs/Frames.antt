@@ -45,16 +45,13 @@ IsShort frame = length (frame_spelling frame) ≤ MAX_PAYLOAD + 5
 
 -- the numbers in it that stand for elements are elements
 abbrev pub IsRanged : model.Frame → Type 0
-IsRanged (model.hello greeting) = Unit {0}
-IsRanged (model.grant given) = Unit {0}
 IsRanged (model.asks frame_value) = All (λ ask. IsElement ask.base_correction) frame_value
 IsRanged (model.replies frame_value) = All (λ reply. IsElement reply.leaf_offset) frame_value
 IsRanged (model.corrections elements) = All IsElement elements
 IsRanged (model.challenge element) = IsElement element
 IsRanged (model.sums both) = All (λ q. IsElement q.0 × IsElement q.1) both
 IsRanged (model.openings macs) = All IsElement macs
-IsRanged (model.verdict code number) = Unit {0}
-IsRanged (model.refuse code) = Unit {0}
+IsRanged frame = Unit {0}
 
 -- the bytes of what is asked for a tree
 abbrev pub ask_bytes : TreeAsk → List ℕ

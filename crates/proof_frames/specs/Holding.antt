@@ -1,45 +1,59 @@
 -- What a decoder keeps, and what holds of it.
-use Rattle.std.specs.Prelude.{◌≡◌, ℕ, ◌+◌, ◌-◌, ◌*◌, ◌^◌, ◌<◌, ◌≤◌, Bool, true, false, Option, Some, None, List, [], ◌∷◌, ◌++◌, length, take, drop, vec_capacity}
-use Rattle.std.specs.Int.{w64, from_le_bytes}
+use Rattle.std.specs.Prelude.{◌≡◌, ℕ, ◌+◌, ◌^◌, ◌<◌, ◌≤◌, Bool, true, false, Option, Some, None, List, [], ◌∷◌, ◌++◌, flat_map, length, take, vec_capacity, All}
+use Rattle.zk_model.specs.Bytes.{element_bytes}
 use Rattle.zk_model.specs.Field.{IsElement}
-use Rattle.zk_model.specs.Frames.{CanGoOn, frame_length}
+use Rattle.zk_model.specs.Frames.{CanGoOn}
 use Rattle.zk_model.specs.declared.Expect.{Expect}
 use Rattle.zk_model.specs.declared.Expect.TheVariants as expect
 use Rattle.proof_frames.specs.Readings.{IsShortPlace}
-use Rattle.proof_frames.specs.Shapes.{IsHeld, spelled}
+use Rattle.proof_frames.specs.Rows.{BeginsFrame, row_of, payload_length}
 use Rattle.proof_frames.specs.declared.decoder.BadFrame.{BadFrame}
 use Rattle.proof_frames.specs.declared.held.Held.{Held}
-use Rattle.zk_model.specs.declared.limits.TheConstants.{LONG_HELLO_LENGTH}
+use Rattle.proof_frames.specs.declared.row.Payload.{Payload}
+use Rattle.proof_frames.specs.declared.row.Payload.TheVariants as payload
 
--- how many elements a place allows
-abbrev pub elements_at : Expect → ℕ
-elements_at (expect.Corrections count) = count
-elements_at expect.Challenge = 1
-elements_at (expect.Sums sections) = 2 * sections
-elements_at (expect.Openings count) = count
-elements_at place = 0
+-- whether a payload is elements alone, which are held as elements
+abbrev pub is_list : Payload → Bool
+is_list (payload.Elements count) = true
+is_list (payload.Fields times first second) = false
+
+-- how many elements a payload alone is
+abbrev pub elements_in : Payload → ℕ
+elements_in (payload.Elements count) = count
+elements_in (payload.Fields times first second) = 0
+
+-- how many bytes of a frame are held as they came
+abbrev pub raw_length : Payload → ℕ
+raw_length (payload.Elements count) = 5
+raw_length (payload.Fields times first second) = 5 + payload_length (payload.Fields times first second)
+
+-- the payload of the longest frame at a place
+abbrev pub longest : Expect → Payload
+longest place = (row_of place 129).payload
 
 -- how many pairs a place allows
 abbrev pub pairs_at : Expect → ℕ
 pairs_at (expect.Sums sections) = sections
 pairs_at place = 0
 
--- how many bytes of trees are held as they came at a place, with the header
-abbrev pub raw_at : Expect → ℕ
-raw_at (expect.Ask height trees left) = frame_length (expect.Ask height trees left) []
-raw_at (expect.Reply height trees left) = frame_length (expect.Reply height trees left) []
-raw_at place = 0
+-- the bytes that are held: as they came, as elements, and as part of an element
+abbrev pub spelled : List ℕ → List ℕ → List ℕ → List ℕ
+spelled start elements part = start ++ flat_map element_bytes elements ++ part
 
--- the bytes that are held
 abbrev pub bytes_of : Held → List ℕ
 bytes_of held = spelled held.start.items held.elements.items held.part.items
 
--- a byte may stand at a place of a tree, after other bytes: for a level it is no more than the most, and at the end of
--- an element that is below the prime
-abbrev pub MayFollow : List ℕ → ℕ → ℕ → ℕ → ℕ → Type 0
-MayFollow bytes at width most byte =
-    (at < width → byte ≤ most)
-    × (width + 7 ≤ at → IsElement (from_le_bytes w64 (drop (length bytes - 7) bytes ++ byte ∷ [])))
+-- after the header elements, and part of the next
+pub record AreElementsApart (start elements part : List ℕ) : Type 0 where
+  pub header : length start ≤ 5
+  pub first : length start < 5 → (elements ≡ []) × (part ≡ [])
+  pub ranged : All IsElement elements
+  pub partial : length part < 8
+
+-- all bytes as they came, or elements apart from the header
+abbrev pub AreKept : Bool → List ℕ → List ℕ → List ℕ → Type 0
+AreKept false start elements part = (elements ≡ []) × (part ≡ [])
+AreKept true start elements part = AreElementsApart start elements part
 
 -- nothing is held
 pub record IsEmpty (held : Held) : Type 0 where
@@ -49,15 +63,15 @@ pub record IsEmpty (held : Held) : Type 0 where
 
 -- there is room for a whole frame at the place
 pub record HasFrameRoom (place : Expect) (held : Held) : Type 0 where
-  pub start : LONG_HELLO_LENGTH ≤ vec_capacity held.start
-  pub raw : raw_at place ≤ vec_capacity held.start
-  pub elements : elements_at place ≤ vec_capacity held.elements
+  pub start : raw_length (longest place) ≤ vec_capacity held.start
+  pub elements : elements_in (longest place) ≤ vec_capacity held.elements
   pub part : 8 ≤ vec_capacity held.part
 
 -- what is held begins a frame at the place, and there is room for the rest of it
 pub record Holds (place : Expect) (held : Held) : Type 0 where
   pub short : IsShortPlace place
-  pub begun : IsHeld place held.start.items held.elements.items held.part.items
+  pub begun : BeginsFrame place (bytes_of held)
+  pub kept : AreKept (is_list (longest place)) held.start.items held.elements.items held.part.items
   pub room : HasFrameRoom place held
 
 -- a byte was taken, or no frame goes on with it and nothing has changed

@@ -1,5 +1,5 @@
 pub mod Frames
-pub mod Shapes
+pub mod Rows
 pub mod Readings
 pub mod Holding
 pub mod Rooms

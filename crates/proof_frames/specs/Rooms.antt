@@ -20,15 +20,9 @@ pub record HasReplyRooms (height trees : ℕ) (rooms : TreeRooms) : Type 0 where
 
 -- room for the trees of the frame at a place
 abbrev pub HasTreeRooms : Expect → TreeRooms → Type 0
-HasTreeRooms expect.Hello rooms = Unit {0}
-HasTreeRooms expect.Grant rooms = Unit {0}
 HasTreeRooms (expect.Ask height trees left) rooms = HasAskRooms height trees rooms
 HasTreeRooms (expect.Reply height trees left) rooms = HasReplyRooms height trees rooms
-HasTreeRooms (expect.Corrections count) rooms = Unit {0}
-HasTreeRooms expect.Challenge rooms = Unit {0}
-HasTreeRooms (expect.Sums sections) rooms = Unit {0}
-HasTreeRooms (expect.Openings count) rooms = Unit {0}
-HasTreeRooms expect.Verdict rooms = Unit {0}
+HasTreeRooms place rooms = Unit {0}
 
 -- room for the trees of the frame that is expected, if one is
 abbrev pub HasRoomsFor : Option Expect → TreeRooms → Type 0

@@ -5,7 +5,7 @@ ghost use Rattle.zk_model.specs.Bits.{from_bit};
 ghost use Rattle.zk_model.specs.Bytes.{element_bytes};
 ghost use Rattle.zk_model.specs.Field.{IsElement};
 ghost use Rattle.zk_model.specs.Frames.{frame_spelling};
-ghost use Rattle.zk_model.specs.Transcript.{kind_number, frame_bytes, hello_frame, grant_frame, ask_frame, reply_frame, sums_frame, verdict_frame, refuse_frame};
+ghost use Rattle.zk_model.specs.Transcript.{kind_number, frame_bytes, hello_frame, grant_frame, ask_frame, reply_frame, sums_frame, verdict_frame};
 ghost use Rattle.proof_frames.specs.Frames.{frame_value, ask_bytes, message_bytes, reply_bytes, sums_payload, IsShort, IsRanged};
 ghost use Rattle.zk_model.specs.declared.limits.TheConstants.{MAX_PAYLOAD};
 
@@ -223,19 +223,8 @@ pub fn encode_sums(alloc: Global, sums: &[(Fe, Fe)]) -> Result<Vec<u8>, AllocErr
 pub fn encode_verdict(alloc: Global, code: u8, number: u32) -> Result<Vec<u8>, AllocError>
     ensures { IfOk result (λ bytes. bytes.items ≡ verdict_frame code number) }
 {
-    let mut bytes = begin(alloc, FrameKind::Verdict, 5)?;
-    bytes.push(code)?;
-    bytes.extend_from_slice(&number.to_le_bytes())?;
-    Ok(bytes)
-}
-
-/// A refusal: a payload of 1 byte.
-fn encode_refuse(alloc: Global, code: u8) -> Result<Vec<u8>, AllocError>
-    ensures { IfOk result (λ bytes. bytes.items ≡ refuse_frame code) }
-{
-    let mut bytes = begin(alloc, FrameKind::Refuse, 1)?;
-    bytes.push(code)?;
-    Ok(bytes)
+    let [n0, n1, n2, n3] = number.to_le_bytes();
+    framed(alloc, FrameKind::Verdict, &[code, n0, n1, n2, n3])
 }
 
 /// A frame, as it is sent.
@@ -258,7 +247,7 @@ pub fn encode(alloc: Global, frame: &Frame) -> Result<Vec<u8>, AllocError>
         Frame::Sums(sums) => encode_sums(alloc, sums)?,
         Frame::Openings(macs) => encode_elements(alloc, FrameKind::Openings, macs)?,
         Frame::Verdict { code, number } => encode_verdict(alloc, *code, *number)?,
-        Frame::Refuse { code } => encode_refuse(alloc, *code)?,
+        Frame::Refuse { code } => framed(alloc, FrameKind::Refuse, &[*code])?,
     };
     Ok(bytes)
 }

@@ -1,17 +1,15 @@
 // The bytes of the frame that is under way.
-ghost use Rattle.std.specs.Prelude.{◌≡◌, ◌↔◌, ◌+◌, ◌-◌, ◌*◌, ◌^◌, ◌<◌, ◌≤◌, ◌++◌, [], ◌∷◌, length, drop, flat_map, get_or, All, IsTrue, IfSome, IfNone, OnOk, ◌≢◌, vec_len, vec_capacity};
-ghost use Rattle.std.specs.Int.{w64, from_le_bytes};
+ghost use Rattle.std.specs.Prelude.{◌≡◌, ◌+◌, ◌*◌, ◌<◌, ◌≤◌, ◌++◌, [], ◌∷◌, length, flat_map, All, IfSome, OnOk, true, false, vec_len, vec_capacity};
 ghost use Rattle.zk_model.specs.Bytes.{element_bytes};
 ghost use Rattle.zk_model.specs.Field.{IsElement};
 ghost use Rattle.zk_model.specs.Frames as model;
 ghost use Rattle.proof_frames.specs.Readings.{IsShortPlace};
-ghost use Rattle.proof_frames.specs.Holding.{MayFollow, elements_at, raw_at};
 
-use crate::shape::{Level, Payload, Shape, told_at};
+use crate::row::{Payload, Row, completed, told_at};
 use mersenne_field::Fe;
 use std::alloc::{AllocError, Global};
 use std::mem;
-use zk_model::{Expect, FrameKind, LONG_HELLO_LENGTH};
+use zk_model::{Expect, FrameKind};
 
 /// The bytes that are taken: the header, and the payload if it has trees or no elements, as they came; whole elements as
 /// elements; and the bytes of an element that is not whole.
@@ -36,6 +34,17 @@ fn element_at(bytes: &[u8]) -> Option<(Fe, &[u8])>
     Some((element, rest))
 }
 
+/// Appends bytes for which there is room.
+fn push_bytes(start: &mut Vec<u8>, bytes: &[u8])
+    requires room { vec_len start.old + length bytes.now ≤ vec_capacity start.old }
+    ensures items { start.new.items ≡ start.old.items ++ bytes.now }
+    ensures capacity { vec_capacity start.new ≡ vec_capacity start.old }
+{
+    for byte in bytes {
+        start.push_reserved(*byte);
+    }
+}
+
 /// Takes whole elements until a piece has no more at its front, and hands back the rest of it.
 fn take_elements<'a>(elements: &mut Vec<Fe>, piece: &'a [u8]) -> &'a [u8]
     requires ranged { All IsElement elements.old.items }
@@ -56,72 +65,10 @@ fn take_elements<'a>(elements: &mut Vec<Fe>, piece: &'a [u8]) -> &'a [u8]
     rest
 }
 
-/// The 8 bytes of an element of which 7 are there.
-fn completed(part: &[u8], last: u8) -> Option<[u8; 8]>
-    ensures word { IfSome result (λ word. (word ≡ part.now ++ last ∷ []) × (length part.now ≡ 7)) }
-    ensures none { IfNone result (length part.now ≢ 7) }
-{
-    let [b0, b1, b2, b3, b4, b5, b6] = part else {
-        return None;
-    };
-    Some([*b0, *b1, *b2, *b3, *b4, *b5, *b6, last])
-}
-
-/// Whether the last 7 bytes and one more spell an element.
-fn ends_element(bytes: &[u8], last: u8) -> bool
-    requires { 7 ≤ length bytes.now }
-    ensures { IsTrue result ↔ IsElement (from_le_bytes w64
-        (drop (length bytes.now - 7) bytes.now ++ last ∷ [])) }
-{
-    match completed(&bytes[bytes.len() - 7..], last) {
-        Some(word) => Fe::from_le(&word).is_some(),
-        None => false,
-    }
-}
-
-/// Whether a byte may stand at a place of a tree, after other bytes: for a level one that is no more than the most, and at
-/// the end of an element one that leaves it below the prime.
-fn may_follow(bytes: &[u8], at: usize, width: usize, most: u8, byte: u8) -> bool
-    requires small { width + 7 ≤ 2 ^ 29 }
-    requires behind { at ≤ length bytes.now }
-    ensures { IsTrue result ↔ MayFollow bytes.now at width most byte }
-{
-    if at < width {
-        byte <= most
-    } else {
-        at < width + 7 || ends_element(bytes, byte)
-    }
-}
-
-/// How many elements a place allows.
-fn elements_room(place: Expect) -> usize
-    requires { IsShortPlace place }
-    ensures { result ≡ elements_at place }
-{
-    match place {
-        Expect::Corrections { count } | Expect::Openings { count } => count,
-        Expect::Challenge => 1,
-        Expect::Sums { sections } => 2 * sections,
-        _ => 0,
-    }
-}
-
-/// How many bytes of trees a place allows, with the header.
-fn raw_room(place: Expect) -> usize
-    requires { IsShortPlace place }
-    ensures { result ≡ raw_at place }
-{
-    match place {
-        Expect::Ask { .. } | Expect::Reply { .. } => Shape::at(place, 0).length(),
-        _ => 0,
-    }
-}
-
 impl Held {
     ghost use Rattle.proof_frames.specs.Readings.{IsShortPlace};
-    ghost use Rattle.proof_frames.specs.Shapes.{shape_of, told_at, told, level_width};
-    ghost use Rattle.proof_frames.specs.declared.shape.Payload.TheVariants as payload;
-    ghost use Rattle.proof_frames.specs.Holding.{bytes_of, IsEmpty, HasFrameRoom, Holds, Steps, Runs, elements_at};
+    ghost use Rattle.proof_frames.specs.Rows.{row_of, told};
+    ghost use Rattle.proof_frames.specs.Holding.{bytes_of, is_list, longest, IsEmpty, HasFrameRoom, Holds, Steps, Runs};
 
     /// Nothing.
     pub(crate) fn new(alloc: Global) -> Self
@@ -134,22 +81,30 @@ impl Held {
         }
     }
 
-    /// The byte that tells the shape of the frame, or another if it is not there.
-    fn told_or(&self, place: Expect, other: u8) -> u8
-        ensures { result ≡ get_or self.now.start.items (told_at place) other }
+    /// The byte that tells the row of the frame, where one more byte may come.
+    fn told_with(&self, place: Expect, byte: u8) -> u8
+        ensures { result ≡ told place (self.now.start.items ++ byte ∷ []) }
     {
-        match self.start.get(told_at(place)) {
-            Some(byte) => *byte,
-            None => other,
+        let at = told_at(place);
+        if at < self.start.len() {
+            self.start[at]
+        } else if at == self.start.len() {
+            byte
+        } else {
+            0
         }
     }
 
-    /// The shape of the frame.
-    fn shape(&self, place: Expect) -> Shape
+    /// The row of the frame.
+    fn row(&self, place: Expect) -> Row
         requires { IsShortPlace place }
-        ensures { result ≡ shape_of place (told place self.now.start.items) }
+        ensures { result ≡ row_of place (told place self.now.start.items) }
     {
-        Shape::at(place, self.told_or(place, 0))
+        let byte = match self.start.get(told_at(place)) {
+            Some(byte) => *byte,
+            None => 0,
+        };
+        Row::at(place, byte)
     }
 
     /// The kind of the frame.
@@ -157,7 +112,7 @@ impl Held {
         requires { Holds place self.now }
         ensures { result ≡ model.expected_kind place (bytes_of self.now) }
     {
-        self.shape(place).kind
+        self.row(place).kind
     }
 
     /// How many bytes the frame has.
@@ -169,31 +124,17 @@ impl Held {
         match place {
             Expect::Hello if untold => 2,
             Expect::Grant if untold => 1,
-            _ => self.shape(place).length(),
+            _ => self.row(place).length(),
         }
-    }
-
-    /// Takes a byte of the header, if it goes on with it.
-    fn take_header_byte(&mut self, place: Expect, byte: u8) -> bool
-        requires holds { Holds place self.old }
-        requires short { vec_len self.old.start < 5 }
-        ensures { Steps place self.old byte result self.new }
-    {
-        let header = Shape::at(place, self.told_or(place, byte)).header();
-        if header[self.start.len()] != byte {
-            return false;
-        }
-        self.start.push_reserved(byte);
-        true
     }
 
     /// Takes a byte of a payload of elements, unless it is the last of an element that is the prime or more.
-    fn take_element_byte(&mut self, place: Expect, count: usize, byte: u8) -> bool
+    fn take_element_byte(&mut self, place: Expect, byte: u8) -> bool
         requires holds { Holds place self.old }
         requires headed { vec_len self.old.start ≡ 5 }
-        requires shape { (shape_of place (told place self.old.start.items)).payload
-            ≡ payload.Elements count }
-        requires within { 8 * vec_len self.old.elements + vec_len self.old.part < 8 * count }
+        requires list { is_list (longest place) ≡ true }
+        requires within { length (bytes_of self.old ++ byte ∷ [])
+            ≤ model.frame_length place (bytes_of self.old ++ byte ∷ []) }
         ensures { Steps place self.old byte result self.new }
     {
         let Some(word) = completed(&self.part, byte) else {
@@ -208,49 +149,16 @@ impl Held {
         true
     }
 
-    /// Takes a byte of a payload of bytes, unless it is the first and not in its range.
-    fn take_plain_byte(
-        &mut self,
-        place: Expect,
-        count: usize,
-        least: u8,
-        most: u8,
-        byte: u8,
-    ) -> bool
+    /// Takes a byte as it comes, if the row of the frame allows it there.
+    fn take_raw_byte(&mut self, place: Expect, row: Row, byte: u8) -> bool
         requires holds { Holds place self.old }
-        requires headed { 5 ≤ vec_len self.old.start }
-        requires shape { (shape_of place (told place self.old.start.items)).payload
-            ≡ payload.Bytes count least most }
-        requires within { vec_len self.old.start < 5 + count }
+        requires row { row ≡ row_of place (told place (self.old.start.items ++ byte ∷ [])) }
+        requires raw { is_list (longest place) ≡ true → vec_len self.old.start < 5 }
+        requires within { length (bytes_of self.old ++ byte ∷ [])
+            ≤ model.frame_length place (bytes_of self.old ++ byte ∷ []) }
         ensures { Steps place self.old byte result self.new }
     {
-        if self.start.len() == 5 && (byte < least || most < byte) {
-            return false;
-        }
-        self.start.push_reserved(byte);
-        true
-    }
-
-    /// Takes a byte of a payload of trees, unless it is too large for its level, or the last of an element that is the prime
-    /// or more.
-    fn take_tree_byte(
-        &mut self,
-        place: Expect,
-        trees: usize,
-        height: usize,
-        level: Level,
-        byte: u8,
-    ) -> bool
-        requires holds { Holds place self.old }
-        requires headed { 5 ≤ vec_len self.old.start }
-        requires shape { (shape_of place (told place self.old.start.items)).payload
-            ≡ payload.Trees trees height level }
-        requires within { vec_len self.old.start < 5 + trees * (level_width level height + 8) }
-        ensures { Steps place self.old byte result self.new }
-    {
-        let width = level.width(height);
-        let at = (self.start.len() - 5) % (width + 8);
-        if !may_follow(&self.start, at, width, level.most(), byte) {
+        if !row.slot(self.start.len()).allows(&self.start, byte) {
             return false;
         }
         self.start.push_reserved(byte);
@@ -264,23 +172,35 @@ impl Held {
             ≤ model.frame_length place (bytes_of self.old ++ byte ∷ []) }
         ensures { Steps place self.old byte result self.new }
     {
-        if self.start.len() < 5 {
-            return self.take_header_byte(place, byte);
-        }
-        match self.shape(place).payload {
-            Payload::Bytes { count, least, most } => {
-                self.take_plain_byte(place, count, least, most, byte)
+        let row = Row::at(place, self.told_with(place, byte));
+        match row.payload {
+            Payload::Elements { .. } if self.start.len() == 5 => {
+                self.take_element_byte(place, byte)
             }
-            Payload::Elements { count } => self.take_element_byte(place, count, byte),
-            Payload::Trees {
-                trees,
-                height,
-                level,
-            } => self.take_tree_byte(place, trees, height, level, byte),
+            _ => self.take_raw_byte(place, row, byte),
         }
     }
 
-    /// Takes whole elements from the front of a piece, where an element is due, and hands back the rest.
+    /// Takes bytes from the front of a piece that may be any, and hands back the rest.
+    fn take_free<'a>(&mut self, place: Expect, payload: Payload, piece: &'a [u8]) -> &'a [u8]
+        requires holds { Holds place self.old }
+        requires payload { payload ≡ (row_of place (told place self.old.start.items)).payload }
+        requires raw { is_list payload ≡ false }
+        requires headed { 5 ≤ vec_len self.old.start }
+        requires some { 1 ≤ length piece.now }
+        requires within { length (bytes_of self.old ++ piece.now)
+            ≤ model.frame_length place (bytes_of self.old ++ piece.now) }
+        ensures holds { Holds place self.new }
+        ensures bytes { bytes_of self.new ++ result.now ≡ bytes_of self.old ++ piece.now }
+        ensures less { length result.now ≤ length piece.now }
+    {
+        let run = payload.free_run(self.start.len() - 5).min(piece.len());
+        let (front, behind) = piece.split_at(run);
+        push_bytes(&mut self.start, front);
+        behind
+    }
+
+    /// Takes whole elements from the front of a piece, where an element is due, or bytes that may be any, and hands back the rest.
     fn take_whole<'a>(&mut self, place: Expect, piece: &'a [u8]) -> &'a [u8]
         requires holds { Holds place self.old }
         requires within { length (bytes_of self.old ++ piece.now)
@@ -289,11 +209,12 @@ impl Held {
         ensures bytes { bytes_of self.new ++ result.now ≡ bytes_of self.old ++ piece.now }
         ensures less { length result.now ≤ length piece.now }
     {
-        if self.start.len() < 5 || !self.part.is_empty() {
+        if self.start.len() < 5 || !self.part.is_empty() || piece.is_empty() {
             return piece;
         }
-        match self.shape(place).payload {
-            Payload::Bytes { .. } | Payload::Trees { .. } => piece,
+        let payload = self.row(place).payload;
+        match payload {
+            Payload::Fields { .. } => self.take_free(place, payload, piece),
             Payload::Elements { .. } => take_elements(&mut self.elements, piece),
         }
     }
@@ -323,9 +244,10 @@ impl Held {
         ensures empty { IsEmpty self.new }
         ensures holds { OnOk result (Holds place self.new) }
     {
-        self.start.reserve(raw_room(place).max(LONG_HELLO_LENGTH))?;
+        let longest = Row::at(place, 129);
+        self.start.reserve(longest.raw_length())?;
         self.part.reserve(8)?;
-        self.elements.reserve(elements_room(place))?;
+        self.elements.reserve(longest.elements())?;
         Ok(())
     }
 

@@ -3,9 +3,9 @@
 //! the field has 8 bytes. The messages are those of Wolverine (Weng, Yang, Katz and Wang, IEEE S&P 2021) and QuickSilver (Yang,
 //! Sarkar, Weng and Wang, ACM CCS 2021); how they are spelled is this format's own.
 //!
-//! `frame` has `Frame`, `Hello` and `Grant`, `encoding` has `encode` and encoders of single frames. `decoder` has `Decoder`; `held`
-//! and `shape` keep the bytes and elements of the frame under way and which frame they begin, `rooms` the room for them, `whole`
-//! and `trees` make the frame of them. `laws` says that bytes are one frame or have one first bad byte.
+//! `frame` has `Frame`, `Hello` and `Grant`, `encoding` has `encode` and encoders of single frames. `decoder` has `Decoder`; `row`
+//! has the kind and the fields of the frames at each place, `held` the bytes and elements of the frame under way, `rooms` the room
+//! for them, `whole` and `trees` make the frame of them. `laws` says that bytes are one frame or have one first bad byte.
 //!
 //!     decoder.expect(Expect::Challenge)?;
 //!     let taken = decoder.feed(piece)?;       // or BadFrame { place, kind }
@@ -18,7 +18,7 @@ mod frame;
 mod held;
 pub mod laws;
 mod rooms;
-mod shape;
+mod row;
 mod trees;
 mod whole;
 

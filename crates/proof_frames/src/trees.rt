@@ -6,7 +6,7 @@ ghost use Rattle.zk_model.specs.Frames.{AreAsks, AreReplies};
 ghost use Rattle.zk_model.specs.Transcript.{IsTreeAsk, IsTreeReply};
 ghost use Rattle.proof_frames.specs.Frames.{ask_bytes, reply_bytes};
 ghost use Rattle.proof_frames.specs.Rooms.{HasAskRooms, HasReplyRooms};
-ghost use Rattle.proof_frames.specs.Shapes.{IsTreeWord, FitsTrees};
+ghost use Rattle.proof_frames.specs.Rows.{FitsFields, repeat, tree_fields};
 
 use crate::rooms::TreeRooms;
 use mersenne_field::Fe;
@@ -44,7 +44,7 @@ fn messages_at(bytes: &[u8], at: usize) -> BlockPair
 
 /// What the bytes of a tree ask, in the room that there is for the flips.
 fn ask_of(bytes: &[u8], height: usize, mut flips: Vec<bool>) -> TreeAsk
-    requires tree { IsTreeWord height 1 bytes.now }
+    requires tree { FitsFields (tree_fields height 1 1) bytes.now }
     requires empty { flips.items ≡ [] }
     requires room { height ≤ vec_capacity flips }
     ensures spelled { ask_bytes result ≡ bytes.now }
@@ -61,7 +61,7 @@ fn ask_of(bytes: &[u8], height: usize, mut flips: Vec<bool>) -> TreeAsk
 
 /// What the bytes of a tree reply, in the room that there is for the messages.
 fn reply_of(bytes: &[u8], height: usize, mut messages: Vec<BlockPair>) -> TreeReply
-    requires tree { IsTreeWord (32 * height) 255 bytes.now }
+    requires tree { FitsFields (tree_fields height 32 255) bytes.now }
     requires empty { messages.items ≡ [] }
     requires room { height ≤ vec_capacity messages }
     ensures spelled { reply_bytes result ≡ bytes.now }
@@ -84,7 +84,7 @@ pub(crate) fn asks_of(
     rooms: &mut TreeRooms,
 ) -> Vec<TreeAsk>
     requires rooms { HasAskRooms height (vec_len rooms.old.flips) rooms.old }
-    requires payload { FitsTrees (vec_len rooms.old.flips) height 1 payload.now }
+    requires payload { FitsFields (repeat (vec_len rooms.old.flips) (tree_fields height 1 1)) payload.now }
     ensures spelled { flat_map ask_bytes result.items ≡ payload.now }
     ensures asks { AreAsks height (vec_len rooms.old.flips) result.items }
 {
@@ -105,7 +105,8 @@ pub(crate) fn replies_of(
     rooms: &mut TreeRooms,
 ) -> Vec<TreeReply>
     requires rooms { HasReplyRooms height (vec_len rooms.old.messages) rooms.old }
-    requires payload { FitsTrees (vec_len rooms.old.messages) (32 * height) 255 payload.now }
+    requires payload { FitsFields (repeat (vec_len rooms.old.messages) (tree_fields height 32 255))
+        payload.now }
     ensures spelled { flat_map reply_bytes result.items ≡ payload.now }
     ensures replies { AreReplies height (vec_len rooms.old.messages) result.items }
 {

@@ -6,7 +6,7 @@ use Rattle.std.proofs.Math.Seq.{take-add}
 use Rattle.std.proofs.lemmas.List.{take_all, length-drop, length-take-le, get_or-drop, drop-drop}
 use Rattle.std.proofs.lemmas.Grind.{div_ceil_times}
 use Rattle.std.specs.Fork.{slice_chunk}
-use Rattle.round_fan.specs.Fans.{AreMade}
+use Rattle.round_fan.specs.Fans.{AreBlocksMade}
 
 -- ---- of lists
 
@@ -41,8 +41,8 @@ one_chunk items size i = sym (ap (λ n. take n items) next ∙ take-add (i * siz
 pub chunks_made : {X M F : Type 0} (Makes : ℕ → List X → M → Type 0) (from start size : ℕ) (first came : List X) (made : List (Result M F))
     → start ≡ from + length first → 0 < size → length made ≡ length came / size + min 1 (length came % size)
     → ((i : ℕ) (other : Result M F) → i < length made → (chunk : List X) × (chunk ≡ slice_chunk came size i) × (i * size ≤ length came) × IfOk (get_or made i other) (Makes (start + i * size) chunk))
-    → AreMade Makes (from + length first) size came made
-chunks_made Makes from start size first came made place some count each = subst (λ n. AreMade Makes n size came made) place (record {
+    → AreBlocksMade Makes (from + length first) size came made
+chunks_made Makes from start size first came made place some count each = subst (λ n. AreBlocksMade Makes n size came made) place (record {
   all = subst (λ n. length came ≤ n * size) (sym count) (div_ceil_times (length came) size some).0;
   each = λ i other below. let (chunk, is, inside, one) = each i other below in (
     inside,
@@ -70,7 +70,7 @@ none_added Makes start size first came made left all is begun = (
 -- one more
 pub one_added : {X M F : Type 0} (Makes : ℕ → List X → M → Type 0) (start size : ℕ) (first came : List X) (made left behind : List (Result M F)) (one all now : M)
     → ((start : ℕ) (first rest : List X) → Makes start first all → Makes (start + length first) rest one → Makes start (first ++ rest) now)
-    → left ≡ Ok one ∷ behind → AreMade Makes (start + length first) size came made
+    → left ≡ Ok one ∷ behind → AreBlocksMade Makes (start + length first) size came made
     → IsSoFar Makes start size first came made left all → IsSoFar Makes start size first came made behind now
 one_added Makes start size first came made left behind one all now adds next are (k, cut, far) = (
   k + 1,

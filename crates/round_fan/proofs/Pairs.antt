@@ -5,14 +5,14 @@ use Rattle.std.proofs.lemmas.List.{length-map, map-append, get_or_append_left, g
 use Rattle.zk_model.specs.Mac.{Pair}
 use Rattle.zk_model.specs.Files.{ProverFile, correlations_per_unit}
 use Rattle.zk_model.specs.Transcript.{TreeReply}
-use Rattle.round_fan.specs.Fans.{lists_of, AreUnits, AreRoundPairs, ArePairsFrom, ArePairs}
+use Rattle.round_fan.specs.Fans.{lists_of, AreRoundUnits, AreRoundPairs, ArePairsFrom, ArePairs}
 use Rattle.round_fan.proofs.Units.{units_as, units_joined, counts}
 
 -- of neighbours
 from_both : (file : ProverFile) (s : ℕ) (xs ys : List (List TreeReply)) (a b : List Pair)
     → ArePairsFrom file s xs a → ArePairsFrom file (s + length xs) ys b → ArePairsFrom file s (xs ++ ys) (a ++ b)
 from_both file s xs ys a b front back =
-    subst (λ n. AreUnits (λ i unit. AreRoundPairs file (s + i) (slice_index_or (xs ++ ys) i []) unit) n (a ++ b)) (sym (length-append xs ys))
+    subst (λ n. AreRoundUnits (λ i unit. AreRoundPairs file (s + i) (slice_index_or (xs ++ ys) i []) unit) n (a ++ b)) (sym (length-append xs ys))
     (units_joined (λ i unit. AreRoundPairs file (s + i) (slice_index_or (xs ++ ys) i []) unit) (length xs) (length ys) a b
     (units_as _ _ (length xs) a (λ i unit below is. subst (λ t. AreRoundPairs file (s + i) t unit) (sym (get_or_append_left xs ys [] i below)) is) front)
     (units_as _ _ (length ys) b (λ i unit below is.

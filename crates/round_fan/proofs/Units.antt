@@ -9,7 +9,7 @@ use Rattle.zk_model.specs.declared.Kind.TheVariants.{Extended}
 use Rattle.zk_model.specs.declared.Params.{Params}
 use Rattle.linear_code.specs.Codes.{Code}
 use Rattle.vole_extend.specs.Rounds.{unit_code}
-use Rattle.round_fan.specs.Fans.{lists_of, AreUnits, Fit, DoFit}
+use Rattle.round_fan.specs.Fans.{lists_of, AreRoundUnits, Fit, DoFit}
 
 -- ---- lists of vectors
 
@@ -38,7 +38,7 @@ per_unit params extended = search (rules, extended)
 
 -- of other facts
 pub units_as : (P Q : ℕ → List Pair → Type 0) (n : ℕ) (pairs : List Pair) → ((i : ℕ) (unit : List Pair) → i < n → P i unit → Q i unit)
-    → AreUnits P n pairs → AreUnits Q n pairs
+    → AreRoundUnits P n pairs → AreRoundUnits Q n pairs
 units_as P Q n pairs turn are = record {
   units = are.units;
   one_each = are.one_each;
@@ -50,8 +50,8 @@ le_or_lt : (m n : ℕ) → (m ≤ n) ⊎ (n < m)
 le_or_lt m n = grind arith
 
 -- one run of units after another
-pub units_joined : (Holds : ℕ → List Pair → Type 0) (n m : ℕ) (a b : List Pair) → AreUnits Holds n a → AreUnits (λ i unit. Holds (n + i) unit) m b
-    → AreUnits Holds (n + m) (a ++ b)
+pub units_joined : (Holds : ℕ → List Pair → Type 0) (n m : ℕ) (a b : List Pair) → AreRoundUnits Holds n a → AreRoundUnits (λ i unit. Holds (n + i) unit) m b
+    → AreRoundUnits Holds (n + m) (a ++ b)
 units_joined Holds n m a b front back = record {
   units = front.units ++ back.units;
   one_each = length-append front.units back.units ∙ (λ i. front.one_each i + back.one_each i);

@@ -27,7 +27,7 @@ AreRoundPairs file unit trees pairs =
     (record { asks = honest_asks file unit; replies = trees }) pairs
 
 -- the pairs of so many units, unit by unit, of each of which this holds by its number
-pub record AreUnits (Holds : ℕ → List Pair → Type 0) (count : ℕ) (pairs : List Pair) : Type 0 where
+pub record AreRoundUnits (Holds : ℕ → List Pair → Type 0) (count : ℕ) (pairs : List Pair) : Type 0 where
   pub units : List (List Pair)
   pub one_each : length units ≡ count
   pub each : (i : ℕ) → i < count → Holds i (slice_index_or units i [])
@@ -36,7 +36,7 @@ pub record AreUnits (Holds : ℕ → List Pair → Type 0) (count : ℕ) (pairs 
 -- the pairs of the units from this one on, of as many as there are replies for, unit by unit
 abbrev pub ArePairsFrom : ProverFile → ℕ → List (List TreeReply) → List Pair → Type 0
 ArePairsFrom file start replies pairs =
-    AreUnits (λ i unit. AreRoundPairs file (start + i) (slice_index_or replies i []) unit) (length replies) pairs
+    AreRoundUnits (λ i unit. AreRoundPairs file (start + i) (slice_index_or replies i []) unit) (length replies) pairs
 
 -- ---- the verifier
 
@@ -51,7 +51,7 @@ keys_from file start count = flat_map (unit_keys file) (range_with_len start cou
 -- ---- rounds
 
 -- every block of so many units made something, of which this holds by the number of its first unit and what came for its units
-pub record AreMade {X M F : Type 0} (Makes : ℕ → List X → M → Type 0) (start size : ℕ) (came : List X) (made : List (Result M F)) : Type 0 where
+pub record AreBlocksMade {X M F : Type 0} (Makes : ℕ → List X → M → Type 0) (start size : ℕ) (came : List X) (made : List (Result M F)) : Type 0 where
   pub all : length came ≤ length made * size
   pub each : (i : ℕ) (other : Result M F) → i < length made → (i * size ≤ length came) × IfOk (slice_index_or made i other) (Makes (start + i * size) (slice_chunk came size i))
 

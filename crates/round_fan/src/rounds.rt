@@ -1,6 +1,6 @@
 // The rounds of neighbouring units, on one thread or many, and what they make, unit by unit.
 ghost use Rattle.std.specs.Prelude.{◌≡◌, ◌+◌, ◌≤◌, ◌<◌, ◌^◌, ◌++◌, ◌∷◌, ℕ, List, [], length, IfOk, OnOk};
-ghost use Rattle.round_fan.specs.Fans.{AreMade, DoFit};
+ghost use Rattle.round_fan.specs.Fans.{AreBlocksMade, DoFit};
 
 use crate::room::Wave;
 use std::alloc::{AllocError, Global};
@@ -75,7 +75,7 @@ fn add_all<X, M: Drop, U: Rounds<X, M>>(
     all: &mut M,
 ) -> Result<(), AllocError>
     ensures { OnOk result ((start size : ℕ) (first came : List X) → U.Makes rounds.now start first all.old
-        → AreMade (U.Makes rounds.now) (start + length first) size came made.items
+        → AreBlocksMade (U.Makes rounds.now) (start + length first) size came made.items
         → U.Makes rounds.now start (first ++ came) all.new) }
 {
     for block in made {

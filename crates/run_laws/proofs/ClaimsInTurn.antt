@@ -4,17 +4,17 @@ use Rattle.std.proofs.lemmas.Bool.{cases_lt}
 use Rattle.std.proofs.Math.Seq.{get_or-append_seam}
 use Rattle.std.proofs.Math.ListN.{get_or-append}
 use Rattle.std.proofs.lemmas.List.{length-append}
-use Rattle.zk_model.specs.ClaimedRanges.{AreMerged, has_unit, is_claimed}
+use Rattle.claim_store.specs.ClaimedRanges.{AreMerged, has_unit, is_claimed}
 use Rattle.zk_model.specs.declared.Span.{Span}
 use Rattle.lease_core.specs.Spans.{IsApart, meets_any}
-use Rattle.zk_model.specs.Twins.{twin_slots_at}
+use Rattle.lease_journal.specs.Twins.{twin_slots_at}
 use Rattle.zk_port.specs.Disks.{DiskState}
 use Rattle.claim_store.specs.Claims.{AreClaims, BytesSayOneList, SaysClaims}
 use Rattle.claim_store.specs.declared.ClaimFault.{ClaimFault}
 use Rattle.claim_store.specs.declared.ClaimFault.TheVariants.{Broken, OutOfRange, Overlap, Full, Device, NoMemory}
 use Rattle.claim_store.proofs.Starting.{not_met}
 use Rattle.claim_store.proofs.Units.{unit_met, within_unit}
-use Rattle.file_commands.specs.ClaimedUnits.{AllHave, FindsClaims, FindsMore, LeavesClaims, MayFind, MovesBy, Place, asked_span}
+use Rattle.file_commands.specs.ClaimedUnits.{AllHave, FindsClaims, FindsMore, LeavesClaims, MayFind, MovesBy, JournalPlace, asked_span}
 use Rattle.file_commands.specs.Journals.{DiskChange, disk_change}
 use Rattle.run_laws.specs.RunsInTurn.{ClaimsUp, MayBeFound, RunsClaimOnce}
 use Rattle.run_laws.proofs.RunsInTurn.{of_some}
@@ -42,14 +42,14 @@ unit_last (claim ∷ claims) s unit is =
 
 -- ---- where a journal stands in bytes
 
-same_place : (id : List ℕ) (total : ℕ) (one other : Place) (some more : List Span) (bytes : List ℕ) → FindsClaims id total one some bytes
+same_place : (id : List ℕ) (total : ℕ) (one other : JournalPlace) (some more : List Span) (bytes : List ℕ) → FindsClaims id total one some bytes
     → FindsClaims id total other more bytes → (other.begin ≡ one.begin) × (other.slots ≡ one.slots)
 same_place id total one other some more bytes here there =
     let begin : other.begin ≡ one.begin = sym there.holds.begins ∙ here.holds.begins in
     (begin, sym there.holds.stands.says ∙ ap (λ (n : ℕ). twin_slots_at n bytes) begin ∙ here.holds.stands.says)
 
 -- bytes say one list of ranges
-one_list : BytesSayOneList → (id : List ℕ) (total : ℕ) (one other : Place) (some more : List Span) (bytes : List ℕ) → FindsClaims id total one some bytes
+one_list : BytesSayOneList → (id : List ℕ) (total : ℕ) (one other : JournalPlace) (some more : List Span) (bytes : List ℕ) → FindsClaims id total one some bytes
     → FindsClaims id total other more bytes → some ≡ more
 one_list law id total one other some more bytes here there =
     let place = same_place id total one other some more bytes here there in
@@ -59,7 +59,7 @@ one_list law id total one other some more bytes here there =
 -- ---- what a run leaves
 
 -- the claims, or those and a span
-abbrev FindsSome : List ℕ → ℕ → Place → List Span → List ℕ → Type 0
+abbrev FindsSome : List ℕ → ℕ → JournalPlace → List Span → List ℕ → Type 0
 FindsSome id total place claims bytes = FindsClaims id total place claims bytes ⊎ ((s : Span) × FindsMore id total place claims s bytes)
 
 if_more : (P Q : List ℕ → Type 0) (o : Option (List ℕ)) → ((b : List ℕ) → P b → Q b) → IsSomeAnd o P → IsSomeAnd o Q
@@ -72,12 +72,12 @@ all_more P Q disk more all = record {
   durable = λ image left. more image (all.durable image left);
 }
 
-some_found : (id : List ℕ) (total : ℕ) (place : Place) (claims : List Span) (units : ℕ × ℕ) (bytes : List ℕ) → MayFind id total place claims units bytes
+some_found : (id : List ℕ) (total : ℕ) (place : JournalPlace) (claims : List Span) (units : ℕ × ℕ) (bytes : List ℕ) → MayFind id total place claims units bytes
     → FindsSome id total place claims bytes
 some_found id total place claims units bytes (inl old) = inl old
 some_found id total place claims units bytes (inr new) = inr (asked_span units, new)
 
-some_left : (id : List ℕ) (total : ℕ) (place : Place) (claims : List Span) (units : ℕ × ℕ) (answer : Result Span ClaimFault) (disk : DiskState)
+some_left : (id : List ℕ) (total : ℕ) (place : JournalPlace) (claims : List Span) (units : ℕ × ℕ) (answer : Result Span ClaimFault) (disk : DiskState)
     → LeavesClaims id total place claims units answer disk → AllHave (FindsSome id total place claims) disk
 some_left id total place claims units (Ok claimed) disk left =
     all_more (FindsMore id total place claims claimed) (FindsSome id total place claims) disk (λ b is. inr (claimed, is)) left
@@ -94,7 +94,7 @@ some_left id total place claims units (Err (Full count)) disk left =
 some_left id total place claims units (Err NoMemory) disk left =
     all_more (FindsClaims id total place claims) (FindsSome id total place claims) disk (λ b is. inl is) left
 
-run_left : (id : List ℕ) (total : ℕ) (place : Place) (used : ℕ) (claims : List Span) (asked : Option (ℕ × ℕ)) (answer : Option (Result Span ClaimFault))
+run_left : (id : List ℕ) (total : ℕ) (place : JournalPlace) (used : ℕ) (claims : List Span) (asked : Option (ℕ × ℕ)) (answer : Option (Result Span ClaimFault))
     (disk : DiskChange) → MovesBy id total place used claims asked answer disk → (first : List ℕ) → disk.old.content ≡ Some first
     → AllHave (FindsSome id total place claims) disk.new
 run_left id total place used claims asked None disk moved first known =
@@ -103,7 +103,7 @@ run_left id total place used claims None (Some answer) disk moved first known = 
 run_left id total place used claims (Some units) (Some answer) disk moved first known =
     some_left id total place claims units answer disk.new (moved.left first known)
 
-run_leaves : (id : List ℕ) (total : ℕ) (place : Place) (used : ℕ) (claims : List Span) (asked : Option (ℕ × ℕ)) (answer : Option (Result Span ClaimFault))
+run_leaves : (id : List ℕ) (total : ℕ) (place : JournalPlace) (used : ℕ) (claims : List Span) (asked : Option (ℕ × ℕ)) (answer : Option (Result Span ClaimFault))
     (disk : DiskChange) → MovesBy id total place used claims asked answer disk → (first : List ℕ) → disk.old.content ≡ Some first
     → (image : List ℕ) → disk.new.images_since disk.old.moment image → disk.old.images image ⊎ FindsSome id total place claims image
 run_leaves id total place used claims asked None disk moved first known image since = inl (moved.any_moment.each image since)
@@ -120,7 +120,7 @@ all_found P disk bytes all (inr image) = all.durable bytes image
 
 -- ---- from run to run
 
-keeps_up : (id : List ℕ) (total : ℕ) (place : Place) (claims : List Span) (first image : List ℕ) → FindsClaims id total place claims first
+keeps_up : (id : List ℕ) (total : ℕ) (place : JournalPlace) (claims : List Span) (first image : List ℕ) → FindsClaims id total place claims first
     → FindsSome id total place claims image → ClaimsUp id total first image
 keeps_up id total place claims first image said (inl old) =
     record { place = place; later_place = place; claims = claims; more = claims; says = said; finds = old; grows = λ unit is. is }
@@ -168,7 +168,7 @@ no_common one other some more none = elim (cases_lt other.start one.end) [
 ]
 
 -- what a run whose units were claimed says
-claimed_by : (id : List ℕ) (total : ℕ) (place : Place) (used : ℕ) (claims : List Span) (asked : Option (ℕ × ℕ)) (claimed : Span) (disk : DiskChange)
+claimed_by : (id : List ℕ) (total : ℕ) (place : JournalPlace) (used : ℕ) (claims : List Span) (asked : Option (ℕ × ℕ)) (claimed : Span) (disk : DiskChange)
     → MovesBy id total place used claims asked (Some (Ok claimed)) disk
     → AreClaims total (claims ++ claimed ∷ []) × ((first : List ℕ) → disk.old.content ≡ Some first → AllHave (FindsMore id total place claims claimed) disk.new)
 claimed_by id total place used claims None claimed disk moved = absurd moved

@@ -8,9 +8,9 @@ use Rattle.std.proofs.lemmas.Bool.{and_from, cases_lt, le-leb, lt-ltb, not_from_
 use Rattle.std.proofs.lemmas.Bool.Decides.{nat_tests}
 use Rattle.std.proofs.lemmas.List.{get_or_past, length-append}
 use Rattle.std.proofs.lemmas.List.Folds.{list_any_none}
-use Rattle.zk_model.specs.Journals.{AreSound, body_before, keeps_rule}
+use Rattle.lease_journal.specs.Journals.{AreSound, body_before, keeps_rule}
 use Rattle.zk_model.specs.declared.JournalKind.TheVariants.{Ceilings}
-use Rattle.zk_model.specs.ClaimedRanges.{AreMerged}
+use Rattle.claim_store.specs.ClaimedRanges.{AreMerged}
 use Rattle.zk_model.specs.declared.Span.{Span}
 use Rattle.lease_core.specs.Machine.{Machine, after_all, durable, is_possible, last_of, machine_at_first}
 use Rattle.lease_core.specs.Spans.{IsApart, meets, meets_any}
@@ -18,13 +18,13 @@ use Rattle.lease_core.specs.declared.event.Event.TheVariants.{Begin, Claim, Cras
 use Rattle.lease_core.proofs.Reached.{is_consistent, reached_first, reached_goes_on, reached_inv}
 use Rattle.lease_store.specs.Ceilings.{FindsCeiling, SaysCeiling, last_ceiling}
 use Rattle.claim_store.specs.Claims.{AreClaims}
-use Rattle.session_pool.specs.Notes.{AreApart, IsBetween}
+use Rattle.session_pool.specs.Notes.{AreGrantsApart, IsBetween}
 use Rattle.session_core.specs.Jobs.{VerifierJob, VerifierJobs, all_jobs, noted_job, units_of_job}
 use Rattle.session_verifier.specs.declared.note.SessionNote.{SessionNote}
 use Rattle.statement_file.specs.Services.{Service}
 use Rattle.zk_port.specs.Disks.{DiskState}
 use Rattle.zk_port.specs.Files.{Files}
-use Rattle.zk_cli.specs.ServeRuns.{AreFew, units_of_note}
+use Rattle.zk_cli.specs.ServeRuns.{TakeFewUnits, units_of_note}
 use Rattle.run_laws.specs.RunsInTurn.{Granted, IsOver, MayBeFound}
 use Rattle.run_laws.proofs.RunsInTurn.{began, left}
 use Rattle.run_laws.proofs.StoppedRuns.{of_deeds}
@@ -63,7 +63,7 @@ abbrev IsGranted : ℕ → ℕ → Option Span → Type 0
 IsGranted base ceiling granted = (units : ℕ) × (0 < units) × (units ≤ 4096) × IsBetween units base ceiling granted
 
 -- what comes after a span among those of a run
-after_it : (units low ceiling : ℕ) (s : Span) (o : Option Span) → 0 < units → s.end ≡ s.start + units → s.start ≤ start_of o → AreApart (Some s) o
+after_it : (units low ceiling : ℕ) (s : Span) (o : Option Span) → 0 < units → s.end ≡ s.start + units → s.start ≤ start_of o → AreGrantsApart (Some s) o
     → IsGranted low ceiling o → IsGranted s.end ceiling o
 after_it units low ceiling s None some size later apart between = between
 after_it units low ceiling s (Some t) some size later (inl apart) between = (between.0, between.1, between.2, (apart, between.3.1, between.3.2))
@@ -80,7 +80,7 @@ with_turn (Some s) rest low ceiling none some = some s refl
 
 module _ {M : Type 0} (granted : M → Option Span) where
   in_turn : (low ceiling : ℕ) (notes : List M) → low ≤ ceiling → IsNonDecreasingBy (λ note. start_of (granted note)) notes
-      → AllPairs (λ one other. AreApart (granted one) (granted other)) notes → All (λ note. IsGranted low ceiling (granted note)) notes
+      → AllPairs (λ one other. AreGrantsApart (granted one) (granted other)) notes → All (λ note. IsGranted low ceiling (granted note)) notes
       → AreInTurn low (granted_spans granted notes) ceiling
   in_turn low ceiling [] rises ordered apart between = rises
   in_turn low ceiling (note ∷ notes) rises ordered apart between =
@@ -102,7 +102,7 @@ module _ {M : Type 0} (granted : M → Option Span) where
             (λ i j d less within. apart (suc i) (suc j) d (omega (arith, less)) (omega (arith, within)))
             (λ k d within. after_it first.0 low ceiling s (granted (get_or notes k d)) some size
             (subst (λ (o : Option Span). start_of o ≤ start_of (granted (get_or notes k d))) is (ordered 0 (suc k) d (omega arith) (omega (arith, within))))
-            (subst (λ (o : Option Span). AreApart o (granted (get_or notes k d))) is (apart 0 (suc k) d (omega arith) (omega (arith, within))))
+            (subst (λ (o : Option Span). AreGrantsApart o (granted (get_or notes k d))) is (apart 0 (suc k) d (omega arith) (omega (arith, within))))
             (between (suc k) d (omega (arith, within)))),
       ))
 
@@ -115,7 +115,7 @@ higher low high above [] more stand = omega (arith, more, stand)
 higher low high above (s ∷ spans) more stand = (stand.0, stand.1, stand.2, higher s.end high above spans more stand.3)
 
 -- the session of a note takes no more units than each does
-noted_few : (jobs : VerifierJobs) → AreFew jobs → (taken : Option ℕ) → units_of_job (noted_job jobs taken) ≤ 4096
+noted_few : (jobs : VerifierJobs) → TakeFewUnits jobs → (taken : Option ℕ) → units_of_job (noted_job jobs taken) ≤ 4096
 noted_few jobs few None = few 0 jobs.first (omega arith)
 noted_few jobs few (Some n) = elim (cases_lt n (length (all_jobs jobs))) [
   | inl within ↦ few n jobs.first within
@@ -123,7 +123,7 @@ noted_few jobs few (Some n) = elim (cases_lt n (length (all_jobs jobs))) [
 ]
 
 -- a session takes a unit, and few
-units_some : (jobs : VerifierJobs) → AreFew jobs → (taken : Option ℕ) → (0 < units_of_job (noted_job jobs taken)) × (units_of_job (noted_job jobs taken) ≤ 4096)
+units_some : (jobs : VerifierJobs) → TakeFewUnits jobs → (taken : Option ℕ) → (0 < units_of_job (noted_job jobs taken)) × (units_of_job (noted_job jobs taken) ≤ 4096)
 units_some jobs few taken = (omega arith, noted_few jobs few taken)
 
 of_run : {D L : Type 0} (state : D → DiskState) (told : Option Files) (service : Service) (notes : List (SessionNote L)) (old new : D) (id : List ℕ) (total : ℕ)

@@ -2,10 +2,10 @@
 use Rattle.std.proofs.Common.{◌≡◌, ◌⊎◌, ◌<◌, ◌≤◌, ℕ, List, length, get_or, map, Some, Option, IfSome, true, refl, sym, ap, ◌∙◌, subst, inl, inr, arith, All}
 use Rattle.std.proofs.lemmas.Bool.Decides.{nat_tests}
 use Rattle.std.proofs.lemmas.List.{length-map, get_or-map}
-use Rattle.zk_model.specs.ClaimedRanges.{AreMerged, RiseFrom, claim_of, claims_of}
-use Rattle.zk_model.specs.Journals.{AreSound, body_before, keeps_rule}
-use Rattle.zk_model.specs.Migrations.{SaysEither, SaysMoved, SaysOneArea, moved_slots, one_area_end}
-use Rattle.zk_model.specs.Twins.{twin_ceiling_slots}
+use Rattle.claim_store.specs.ClaimedRanges.{AreMerged, RiseFrom, claim_of, claims_of}
+use Rattle.lease_journal.specs.Journals.{AreSound, body_before, keeps_rule}
+use Rattle.journal_migration.specs.Migrations.{SaysEither, SaysMoved, SaysOneArea, moved_slots, one_area_end}
+use Rattle.lease_journal.specs.Twins.{twin_ceiling_slots}
 use Rattle.zk_model.specs.declared.JournalKind.TheVariants as kind
 use Rattle.zk_model.specs.declared.Span.{Span}
 use Rattle.zk_port.specs.Disks.{Choice, DiskState}
@@ -17,7 +17,7 @@ use Rattle.claim_store.proofs.Units.{rising_apart}
 use Rattle.journal_migration.specs.Migrating.{MovesOn, MovesSafely}
 use Rattle.journal_migration.specs.declared.Moved.{Moved}
 use Rattle.journal_migration.specs.declared.Moved.TheVariants.{Done, Already}
-use Rattle.file_commands.specs.ClaimedUnits.{FindsClaims, Place}
+use Rattle.file_commands.specs.ClaimedUnits.{FindsClaims, JournalPlace}
 use Rattle.file_commands.specs.Journals.{DiskChange, disk_change}
 use Rattle.file_commands.specs.MigrateRuns.{MigratesJournal, MovesJournal, once_chosen}
 use Rattle.file_commands.specs.declared.migrate_command.DealtUnits.{DealtUnits}

@@ -5,7 +5,7 @@ use Rattle.zk_port.specs.Disks.{DiskState}
 use Rattle.zk_port.specs.Files.{Files}
 use Rattle.lease_store.specs.Ceilings.{FindsCeiling, SaysCeiling, last_ceiling}
 use Rattle.lease_store.proofs.Finding.{one_ceiling, says_found}
-use Rattle.session_pool.specs.Notes.{AreApart, IsBetween}
+use Rattle.session_pool.specs.Notes.{AreGrantsApart, IsBetween}
 use Rattle.session_verifier.specs.declared.note.SessionNote.{SessionNote}
 use Rattle.statement_file.specs.Services.{Service}
 use Rattle.zk_cli.specs.ServeRuns.{units_of_note}
@@ -36,7 +36,7 @@ in_turn id total first middle last one other = record {
 
 -- a span below a ceiling and one above it are apart
 apart_at : (units base ceiling later_units later_base later_ceiling : ℕ) (one other : Option Span) → ceiling ≤ later_base
-    → IsBetween units base ceiling one → IsBetween later_units later_base later_ceiling other → AreApart one other
+    → IsBetween units base ceiling one → IsBetween later_units later_base later_ceiling other → AreGrantsApart one other
 apart_at units base ceiling later_units later_base later_ceiling None other low below above = tt
 apart_at units base ceiling later_units later_base later_ceiling (Some s) None low below above = tt
 apart_at units base ceiling later_units later_base later_ceiling (Some s) (Some t) low below above =

@@ -1,7 +1,7 @@
 -- Runs over one file's journals, one after the other, as events of the lease machine.
 use Rattle.std.specs.Prelude.{◌≡◌, ◌⊎◌, ℕ, ◌+◌, ◌<◌, ◌≤◌, true, false, List, [], ◌∷◌, ◌++◌, Option, None, Some, All}
 use Rattle.std.specs.List.{Contains}
-use Rattle.zk_model.specs.ClaimedRanges.{AreMerged, RiseFrom}
+use Rattle.claim_store.specs.ClaimedRanges.{AreMerged, RiseFrom}
 use Rattle.zk_model.specs.declared.Span.{Span}
 use Rattle.zk_model.specs.declared.limits.TheConstants.{MAX_UNITS}
 use Rattle.zk_port.specs.Disks.{DiskState}

@@ -1,13 +1,13 @@
 -- A migration, and the runs before and after it.
 use Rattle.std.specs.Prelude.{◌≡◌, ◌⊎◌, ℕ, List, Some}
-use Rattle.zk_model.specs.ClaimedRanges.{AreMerged, claims_of}
-use Rattle.zk_model.specs.Migrations.{SaysOneArea}
+use Rattle.claim_store.specs.ClaimedRanges.{AreMerged, claims_of}
+use Rattle.journal_migration.specs.Migrations.{SaysOneArea}
 use Rattle.zk_model.specs.declared.JournalKind.TheVariants as kind
 use Rattle.zk_model.specs.declared.Span.{Span}
 use Rattle.zk_port.specs.Disks.{Choice, DiskState}
 use Rattle.lease_store.specs.Ceilings.{SaysCeiling, last_ceiling}
 use Rattle.journal_migration.specs.declared.Moved.{Moved}
-use Rattle.file_commands.specs.ClaimedUnits.{FindsClaims, Place}
+use Rattle.file_commands.specs.ClaimedUnits.{FindsClaims, JournalPlace}
 use Rattle.file_commands.specs.Journals.{disk_change}
 use Rattle.file_commands.specs.MigrateRuns.{MigratesJournal, MovesJournal}
 use Rattle.file_commands.specs.declared.migrate_command.DealtUnits.{DealtUnits}
@@ -32,7 +32,7 @@ abbrev pub SaysSameCeiling : List ℕ → ℕ → List ℕ → List ℕ → Type
 SaysSameCeiling id total first found = (ceiling : ℕ) × SaysOldCeiling id total ceiling first × SaysCeiling id total ceiling found
 
 abbrev pub SaysSameClaims : List ℕ → ℕ → List ℕ → List ℕ → Type 0
-SaysSameClaims id total first found = (claims : List Span) × (place : Place) × SaysOldClaims id total claims first × FindsClaims id total place claims found
+SaysSameClaims id total first found = (claims : List Span) × (place : JournalPlace) × SaysOldClaims id total claims first × FindsClaims id total place claims found
 
 -- it said this ceiling, or these ranges, and it says it still, or one of two areas does
 abbrev pub MaySayCeiling : List ℕ → ℕ → List ℕ → List ℕ → Type 0
@@ -41,7 +41,7 @@ MaySayCeiling id total first left =
 
 abbrev pub MaySayClaims : List ℕ → ℕ → List ℕ → List ℕ → Type 0
 MaySayClaims id total first left = (claims : List Span) × SaysOldClaims id total claims first
-    × (SaysOldClaims id total claims left ⊎ ((place : Place) × FindsClaims id total place claims left))
+    × (SaysOldClaims id total claims left ⊎ ((place : JournalPlace) × FindsClaims id total place claims left))
 
 -- What follows for the runs before and after a migration. Once a journal is migrated, the next run begins with the very ceiling, or with
 -- the very ranges, that the journal of one area said, or with what stood there where it had been migrated before. A migration that is stopped

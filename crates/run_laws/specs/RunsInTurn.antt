@@ -1,16 +1,16 @@
 -- Runs over one file's journals, one after the other.
 use Rattle.std.specs.Prelude.{◌≡◌, ◌⊎◌, ℕ, ◌≤◌, List, true, All, Option, Some, Result, Ok}
-use Rattle.zk_model.specs.ClaimedRanges.{is_claimed}
+use Rattle.claim_store.specs.ClaimedRanges.{is_claimed}
 use Rattle.zk_model.specs.declared.Span.{Span}
 use Rattle.zk_port.specs.Disks.{Choice, DiskState}
 use Rattle.zk_port.specs.Files.{Files}
 use Rattle.lease_core.specs.Spans.{IsApart}
 use Rattle.lease_store.specs.Ceilings.{SaysCeiling}
 use Rattle.claim_store.specs.declared.ClaimFault.{ClaimFault}
-use Rattle.session_pool.specs.Notes.{AreApart}
+use Rattle.session_pool.specs.Notes.{AreGrantsApart}
 use Rattle.session_verifier.specs.declared.note.SessionNote.{SessionNote}
 use Rattle.statement_file.specs.Services.{Service}
-use Rattle.file_commands.specs.ClaimedUnits.{FindsClaims, KeepsClaims, Place}
+use Rattle.file_commands.specs.ClaimedUnits.{FindsClaims, KeepsClaims, JournalPlace}
 use Rattle.file_commands.specs.Journals.{DiskChange, disk_change}
 use Rattle.zk_cli.specs.ServedNotes.{GrantsOnce}
 
@@ -60,18 +60,18 @@ pub record RunsGrantOnce (L : Type 0) {D : Type 0} (state : D → DiskState) : T
       → (later : Granted state later_told later_service later_notes later_old later_new) → IsOver id total later
       → (first found begun : List ℕ) → (state old).content ≡ Some first → MayBeFound (state new) found
       → KeepsUp id total found begun → (state later_old).content ≡ Some begun
-      → All (λ one. All (λ other. AreApart one.granted other.granted) later_notes) notes
+      → All (λ one. All (λ other. AreGrantsApart one.granted other.granted) later_notes) notes
 
 -- ---- journals of claims
 
 -- what the contract of `run_zk` promises of a run of `prove` that opened the journal and asked for units, from the one disk to the other
-abbrev pub Claimed : {D : Type 0} → (D → DiskState) → Choice → List ℕ → ℕ → Option (ℕ × ℕ) → Option (Result Span ClaimFault) → D → D → Type 0
-Claimed state choice id total asked answer old new = KeepsClaims choice id total asked answer (disk_change (state old) (state new))
+abbrev pub ProveClaimed : {D : Type 0} → (D → DiskState) → Choice → List ℕ → ℕ → Option (ℕ × ℕ) → Option (Result Span ClaimFault) → D → D → Type 0
+ProveClaimed state choice id total asked answer old new = KeepsClaims choice id total asked answer (disk_change (state old) (state new))
 
 -- bytes say ranges of claims, and later ones ranges that have all their units, wherever the journal stands in each
 pub record ClaimsUp (id : List ℕ) (total : ℕ) (first later : List ℕ) : Type 0 where
-  pub place : Place
-  pub later_place : Place
+  pub place : JournalPlace
+  pub later_place : JournalPlace
   pub claims : List Span
   pub more : List Span
   pub says : FindsClaims id total place claims first
@@ -83,18 +83,18 @@ pub record ClaimsUp (id : List ℕ) (total : ℕ) (first later : List ℕ) : Typ
 -- units were claimed, no unit is claimed by both.
 pub record RunsClaimOnce {D : Type 0} (state : D → DiskState) : Type 0 where
   pub keeps_up : (choice : Choice) (id : List ℕ) (total : ℕ) (asked : Option (ℕ × ℕ)) (answer : Option (Result Span ClaimFault)) (old new : D)
-      → Claimed state choice id total asked answer old new
+      → ProveClaimed state choice id total asked answer old new
       → (first found : List ℕ) → (state old).content ≡ Some first → MayBeFound (state new) found → ClaimsUp id total first found
   pub any_moment : (choice : Choice) (id : List ℕ) (total : ℕ) (asked : Option (ℕ × ℕ)) (answer : Option (Result Span ClaimFault)) (old new : D)
-      → Claimed state choice id total asked answer old new
+      → ProveClaimed state choice id total asked answer old new
       → (first left : List ℕ) → (state old).content ≡ Some first → MayBeLeft (state old) (state new) left
       → (state old).images left ⊎ ClaimsUp id total first left
   pub in_turn : (id : List ℕ) (total : ℕ) (first middle last : List ℕ) → ClaimsUp id total first middle → ClaimsUp id total middle last
       → ClaimsUp id total first last
   pub apart : (choice later_choice : Choice) (id : List ℕ) (total : ℕ) (asked later_asked : Option (ℕ × ℕ)) (claimed later_claimed : Span)
       (old new later_old later_new : D)
-      → Claimed state choice id total asked (Some (Ok claimed)) old new
-      → Claimed state later_choice id total later_asked (Some (Ok later_claimed)) later_old later_new
+      → ProveClaimed state choice id total asked (Some (Ok claimed)) old new
+      → ProveClaimed state later_choice id total later_asked (Some (Ok later_claimed)) later_old later_new
       → (first found begun : List ℕ) → (state old).content ≡ Some first → MayBeFound (state new) found
       → ClaimsUp id total found begun → (state later_old).content ≡ Some begun
       → IsApart claimed later_claimed

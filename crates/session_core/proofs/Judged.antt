@@ -10,7 +10,7 @@ use Rattle.zk_model.specs.ServedVerifier.{challenge_coin}
 use Rattle.wire_auth.specs.Sides.{VerifierSide}
 use Rattle.std.specs.Prelude.{Result, Ok, Err, IfOk}
 use Rattle.std.specs.declared.alloc.AllocError.{AllocError}
-use Rattle.mult_check.specs.Checks.{product_check, opening_check, DiffersFirst}
+use Rattle.mult_check.specs.Checks.{product_check, opening_check, SectionDiffersFirst}
 use Rattle.mult_check.specs.declared.sections.Differs.{Differs}
 use Rattle.mult_check.specs.declared.fault.StreamFault.{StreamFault}
 use Rattle.mult_check.specs.declared.fault.StreamFault.TheVariants as stream
@@ -33,7 +33,7 @@ sides_of_few check openings masks (RejectedOpening output left right) few is sid
 
 -- sums that are refused for a section whose sides differ first
 pub rejected : (check : ProductCheck) (openings : OpeningCheck) (fault : StreamFault) (result : Result Judgement AllocError)
-    → ((differs : Differs) → fault ≡ stream.Differs differs → DiffersFirst check differs) → IfOk result (IsRejectedFor fault)
+    → ((differs : Differs) → fault ≡ stream.Differs differs → SectionDiffersFirst check differs) → IfOk result (IsRejectedFor fault)
     → IfOk result (Judges check openings)
 rejected check openings fault (Ok judgement) first (differs, is, same) =
     subst (Judges check openings) (sym same) ((first differs is).first, ((first differs is).left, (first differs is).right))

@@ -9,7 +9,7 @@ use Rattle.zk_model.specs.Transcript.{Grant, TreeReply, IsGrant}
 use Rattle.zk_model.specs.Correlations.{span_keys}
 use Rattle.zk_model.specs.View.{span_of}
 use Rattle.zk_model.specs.declared.Kind.TheVariants.{Extended}
-pub use Rattle.round_fan.specs.Fans.{AreUnits}
+pub use Rattle.round_fan.specs.Fans.{AreRoundUnits}
 use Rattle.round_fan.specs.Fans.{ArePairsFrom}
 use Rattle.wire_auth.specs.Walks.{side_made}
 use Rattle.session_core.specs.Jobs.{ProverJob, VerifierJob, granted_from, units_of_job}

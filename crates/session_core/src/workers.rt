@@ -7,7 +7,7 @@ ghost use Rattle.zk_model.specs.Files.{correlations_per_unit};
 ghost use Rattle.zk_model.specs.Frames.{AreAsks, AreReplies};
 ghost use Rattle.zk_model.specs.Program.{section_count};
 ghost use Rattle.zk_model.specs.declared.Kind.TheVariants.{Extended};
-ghost use Rattle.mult_check.specs.Checks.{DiffersFirst, sent_check};
+ghost use Rattle.mult_check.specs.Checks.{SectionDiffersFirst, sent_check};
 ghost use Rattle.mult_check.specs.declared.fault.StreamFault.TheVariants as stream;
 ghost use Rattle.mult_check.specs.declared.sections.Differs.{Differs};
 ghost use Rattle.vole_extend.specs.Rounds.{unit_code};
@@ -108,7 +108,7 @@ pub trait Workers {
         ensures met { OnOk result (length walk.old.side.program.products ≤ walk.new.met) }
         ensures holds { IfOk result (λ _. AllSectionsHold (sent_check walk.old.side sent.now)) }
         ensures differs { IfErr result (λ e. (d : Differs) → e ≡ stream.Differs d
-            → DiffersFirst (sent_check walk.old.side sent.now) d) };
+            → SectionDiffersFirst (sent_check walk.old.side sent.now) d) };
 }
 
 /// On the caller's own thread.

@@ -1,24 +1,23 @@
 -- How a session goes on, turn by turn, and how it ends.
 use Rattle.std.proofs.Common.{◌≡◌, ◌⊎◌, inl, inr, ℕ, ◌+◌, ◌≤◌, List, [], ◌∷◌, ◌++◌, flat_map, length, true, ap, sym, ◌∙◌, arith, append_assoc, append-nil, ◌*◌, ◌^◌, ◌<◌, None, refl, subst, length-append, Option, Some}
 use Rattle.std.proofs.lemmas.Grind.{flat_map-append}
-use Rattle.zk_model.specs.Transcript.{bytes_from, sent_by, refuse_frame}
-use Rattle.zk_model.specs.Frames.{Frame, frame_spelling, IsWhole}
+use Rattle.zk_model.specs.Transcript.{bytes_from, sent_by}
+use Rattle.zk_model.specs.Frames.{Frame, frame_spelling, IsWhole, hello}
 use Rattle.zk_model.specs.declared.Side.{Side}
 use Rattle.zk_model.specs.declared.Side.TheVariants.{Prover, Verifier}
 use Rattle.frame_laws.proofs.SentBytes.{sent_by-append, own_bytes, none_of_verifier, none_of_prover}
-use Rattle.zk_port.specs.Counts.{counted, Rose}
+use Rattle.zk_port.specs.Counts.{counted}
 use Rattle.frame_link.specs.Sides.{peer_of}
-use Rattle.frame_link.specs.Lines.{counted_times, LineState, Arrives, Fails, Breaks}
+use Rattle.frame_link.specs.Lines.{counted_times, LineState, Arrives, Fails}
 use Rattle.frame_link.proofs.LineLemmas.{one_send_more, appended_none, appended_more, before_none, before_more, longest, frame_most, IsAnswered, is_answered, came_none, none_fails}
-use Rattle.session_driver.specs.Runs.{Turn, said, turn_log, whole_log, sends_of, answers_sent, sends_in, Moves, IsTurn, Goes, IsFresh, HasPassed, SendsAll, TurnGoes, Runs, IsUnsent, TurnStops, TriesRefusal, LeavesUnsent, LacksFrame, RefusesFrame, Lacks, IsMissing, IsRun, StopsBy, seen_as}
+use Rattle.session_driver.specs.Runs.{Turn, said, turn_log, whole_log, Moves, IsTurn, Goes, IsFresh, HasPassed, SendsAll, TurnGoes, Runs, IsUnsent, TurnStops, answers_behind, answers_in, new_answer}
 use Rattle.zk_model.specs.declared.Expect.{Expect}
 use Rattle.zk_port.specs.Logs.{appended, put_before}
 use Rattle.proof_frames.specs.Readings.{Reading, IsShortPlace}
 use Rattle.proof_frames.proofs.Lengths.{whole_length}
 use Rattle.frame_link.specs.declared.fault.LineFault.{LineFault}
-use Rattle.frame_link.specs.declared.fault.LineFault.TheVariants.{NoMemory, PeerEnded, BadFrame, Link}
-use Rattle.session_driver.specs.declared.drive.Outcome.TheVariants.{Cut, Done, Refused}
-use Rattle.session_driver.specs.declared.drive.Outcome.{Outcome}
+use Rattle.frame_link.specs.declared.fault.LineFault.TheVariants.{NoMemory}
+use Rattle.session_driver.specs.declared.drive.Outcome.TheVariants.{Cut}
 use Rattle.zk_model.specs.declared.Expect.TheVariants as places
 use Rattle.std.proofs.lemmas.List.{map-append, flat_map_more}
 
@@ -63,22 +62,84 @@ whole_more side greeting turns turn =
     ∙ ap (λ l. said side greeting ++ (flat_map (turn_log side) turns ++ l)) (sym (append-nil (turn_log side turn)))
     ∙ ap (λ l. said side greeting ++ l) (sym (flat_map-append (turn_log side) turns (turn ∷ [])))
 
--- and its sends
-pub answers_more : (turns : List Turn) (turn : Turn) → answers_sent (turns ++ turn ∷ []) ≡ answers_sent turns + sends_of turn.answer
-answers_more [] turn = omega arith
-answers_more (first ∷ turns) turn = omega (arith, answers_more turns turn)
+-- ---- how many answers a log has
 
-pub sends_more : (greeting : List Frame) (turns : List Turn) (turn : Turn)
-    → sends_in greeting (turns ++ turn ∷ []) ≡ sends_in greeting turns + sends_of turn.answer
-sends_more greeting turns turn = omega (arith, answers_more turns turn)
+-- every frame has a byte
+pub frame_is_some : (frame : Frame) → 1 ≤ length (frame_spelling frame)
+frame_is_some (hello said) = omega arith
+frame_is_some frame = omega arith
+
+frames_are_some : (frames : List Frame) → 1 ≤ length frames → 1 ≤ length (flat_map frame_spelling frames)
+frames_are_some [] some = absurd (omega (arith, some))
+frames_are_some (frame ∷ frames) some =
+    omega (arith, frame_is_some frame, length-append (frame_spelling frame) (flat_map frame_spelling frames))
+
+peer_says : (side last : Side) → new_answer side last (peer_of side) ≡ 0
+peer_says Prover Prover = refl
+peer_says Prover Verifier = refl
+peer_says Verifier Prover = refl
+peer_says Verifier Verifier = refl
+
+own_says : (side : Side) → new_answer side side side ≡ 0
+own_says Prover = refl
+own_says Verifier = refl
+
+own_first : (side : Side) → new_answer side (peer_of side) side ≡ 1
+own_first Prover = refl
+own_first Verifier = refl
+
+-- the peer's bytes are no answer
+none_heard : (side last : Side) (bytes : List ℕ) → answers_behind side last (bytes_from (peer_of side) bytes) ≡ 0
+none_heard side last [] = refl
+none_heard side last (byte ∷ bytes) = omega (arith, none_heard side (peer_of side) bytes, peer_says side last)
+
+heard_behind : (side last : Side) (log : List (Side × ℕ)) (bytes : List ℕ)
+    → answers_behind side last (log ++ bytes_from (peer_of side) bytes) ≡ answers_behind side last log
+heard_behind side last [] bytes = none_heard side last bytes
+heard_behind side last (entry ∷ log) bytes = ap (λ n. new_answer side last entry.0 + n) (heard_behind side entry.0 log bytes)
+
+pub answers_heard : (side : Side) (log : List (Side × ℕ)) (bytes : List ℕ) → answers_in side (log ++ bytes_from (peer_of side) bytes) ≡ answers_in side log
+answers_heard side log bytes = heard_behind side (peer_of side) log bytes
+
+-- more of one's own bytes are none
+none_said : (side : Side) (bytes : List ℕ) → answers_behind side side (bytes_from side bytes) ≡ 0
+none_said side [] = refl
+none_said side (byte ∷ bytes) = omega (arith, none_said side bytes, own_says side)
+
+-- what this side says behind this log is one answer more
+abbrev pub AwaitsAnswer : Side → List (Side × ℕ) → Type 0
+AwaitsAnswer side log = (said : List ℕ) → 1 ≤ length said → answers_in side (log ++ bytes_from side said) ≡ answers_in side log + 1
+
+pub answers_first : (side : Side) → AwaitsAnswer side []
+answers_first side [] some = absurd (omega (arith, some))
+answers_first side (byte ∷ said) some = omega (arith, none_said side said, own_first side)
+
+said_behind : (side last : Side) (heard said : List ℕ) → 1 ≤ length heard → 1 ≤ length said
+    → answers_behind side last (bytes_from (peer_of side) heard ++ bytes_from side said) ≡ 1
+said_behind side last [] said some more = absurd (omega (arith, some))
+said_behind side last (byte ∷ []) said some more = omega (arith, answers_first side said more, peer_says side last)
+said_behind side last (byte ∷ other ∷ heard) said some more =
+    omega (arith, said_behind side (peer_of side) (other ∷ heard) said (omega arith) more, peer_says side last)
+
+more_behind : (side last : Side) (log : List (Side × ℕ)) (heard said : List ℕ) → 1 ≤ length heard → 1 ≤ length said
+    → answers_behind side last ((log ++ bytes_from (peer_of side) heard) ++ bytes_from side said) ≡ answers_behind side last log + 1
+more_behind side last [] heard said some more = said_behind side last heard said some more
+more_behind side last (entry ∷ log) heard said some more = omega (arith, more_behind side entry.0 log heard said some more)
+
+-- so it is behind a frame of the peer's
+pub awaits_answer : (side : Side) (log : List (Side × ℕ)) (frame : Frame) → AwaitsAnswer side (log ++ bytes_from (peer_of side) (frame_spelling frame))
+awaits_answer side log frame said some =
+    omega (arith, more_behind side (peer_of side) log (frame_spelling frame) said (frame_is_some frame) some, answers_heard side log (frame_spelling frame))
 
 -- frames that are sent together are counted once
-pub sends_counted : (frames : List Frame) (n before old new : ℕ) → old ≡ counted_times n before
-    → ((frames ≡ []) × (new ≡ old)) ⊎ ((1 ≤ length frames) × (new ≡ counted true old)) → new ≡ counted_times (n + sends_of frames) before
-sends_counted [] n before old new counts (inl none) = none.1 ∙ counts ∙ ap (λ (k : ℕ). counted_times k before) (omega arith)
-sends_counted [] n before old new counts (inr some) = absurd (omega (arith, some.0))
-sends_counted (frame ∷ frames) n before old new counts (inl none) = absurd (omega (arith, ap length none.0))
-sends_counted (frame ∷ frames) n before old new counts (inr some) = one_send_more n before new (some.1 ∙ ap (counted true) counts)
+answers_sent : (side : Side) (log : List (Side × ℕ)) (frames : List Frame) (before old new : ℕ) → AwaitsAnswer side log
+    → old ≡ counted_times (answers_in side log) before → ((frames ≡ []) × (new ≡ old)) ⊎ ((1 ≤ length frames) × (new ≡ counted true old))
+    → new ≡ counted_times (answers_in side (log ++ said side frames)) before
+answers_sent side log frames before old new awaits counts (inl none) =
+    none.1 ∙ counts ∙ ap (λ l. counted_times (answers_in side l) before) (sym (append-nil log) ∙ (λ i. log ++ said side (sym none.0 i)))
+answers_sent side log frames before old new awaits counts (inr some) =
+    one_send_more (answers_in side log) before new (some.1 ∙ ap (counted true) counts)
+    ∙ ap (λ (k : ℕ). counted_times k before) (sym (awaits (flat_map frame_spelling frames) (frames_are_some frames some.0)))
 
 -- ---- turns in order
 
@@ -90,7 +151,7 @@ goes_more moves old mid new (first ∷ turns) turn went is = (went.0, went.1, go
 -- ---- what has passed
 
 -- nothing yet
-pub none_passed : (first : LineState) → IsFresh first → HasPassed [] 0 first first
+pub none_passed : (first : LineState) → IsFresh first → HasPassed [] first first
 none_passed first fresh = record {
   logged = fresh.log;
   reading = fresh.reading;
@@ -105,15 +166,15 @@ none_passed first fresh = record {
 }
 
 -- a frame more that came, whatever the room in the log
-pub passed_heard : (log : List (Side × ℕ)) (sends room : ℕ) (first was heard : LineState) (place : Expect) (frame : Frame)
-    → HasPassed log sends first was → Arrives place frame (record was { room = room }) heard
-    → HasPassed (log ++ bytes_from (peer_of first.side) (frame_spelling frame)) sends first heard
-passed_heard log sends room first was heard place frame passed arrives =
+pub passed_heard : (log : List (Side × ℕ)) (room : ℕ) (first was heard : LineState) (place : Expect) (frame : Frame)
+    → HasPassed log first was → Arrives place frame (record was { room = room }) heard
+    → HasPassed (log ++ bytes_from (peer_of first.side) (frame_spelling frame)) first heard
+passed_heard log room first was heard place frame passed arrives =
     let bytes = arrives.bytes in
     let more = came_more first.side log bytes in
     let counted = ap length more ∙ length-append (sent_by (peer_of first.side) log) bytes in
     let received = ap (λ n. n + length bytes) (ap (λ (r : Reading). r.received) passed.reading) ∙ sym counted in
-    subst (λ l. HasPassed (log ++ bytes_from (peer_of first.side) l) sends first heard) arrives.whole.spelled (record {
+    subst (λ l. HasPassed (log ++ bytes_from (peer_of first.side) l) first heard) arrives.whole.spelled (record {
       logged = arrives.came.logged ∙ (λ i. passed.logged i ++ bytes_from (peer_of (passed.side i)) bytes);
       reading = arrives.read ∙ (λ i. record { received = received i; expected = None; taken = []; bad = None });
       told = arrives.came.told ∙ (λ i. appended (bytes_from (peer_of (passed.side i)) bytes) (passed.told i))
@@ -123,18 +184,18 @@ passed_heard log sends room first was heard place frame passed arrives =
           ∙ ap (λ l. put_before l heard.to_come) (sym more);
       side = arrives.came.side ∙ passed.side;
       is_open = arrives.came.is_open ∙ passed.is_open;
-      sends = arrives.came.sends ∙ passed.sends;
+      sends = arrives.came.sends ∙ passed.sends ∙ ap (λ (k : ℕ). counted_times k first.sends) (sym (answers_heard first.side log bytes));
       refused_sends = arrives.came.refused_sends ∙ passed.refused_sends;
       receives = omega (arith, arrives.receives, passed.receives, counted);
       faults = arrives.unfailed ∙ passed.faults;
     })
 
 -- and frames that were sent
-pub passed_sent : (log : List (Side × ℕ)) (sends : ℕ) (first was now : LineState) (frames : List Frame) → HasPassed log sends first was
-    → SendsAll frames was now → HasPassed (log ++ said first.side frames) (sends + sends_of frames) first now
-passed_sent log sends first was now frames passed sent = answered (is_answered frames was now sent)
+pub passed_sent : (log : List (Side × ℕ)) (first was now : LineState) (frames : List Frame) → AwaitsAnswer first.side log → HasPassed log first was
+    → SendsAll frames was now → HasPassed (log ++ said first.side frames) first now
+passed_sent log first was now frames awaits passed sent = answered (is_answered frames was now sent)
   where
-    answered : IsAnswered frames was now → HasPassed (log ++ said first.side frames) (sends + sends_of frames) first now
+    answered : IsAnswered frames was now → HasPassed (log ++ said first.side frames) first now
     answered by =
         let same = came_same first.side log (flat_map frame_spelling frames) in
         record {
@@ -144,7 +205,7 @@ passed_sent log sends first was now frames passed sent = answered (is_answered f
           came = passed.came ∙ (λ i. put_before (sym same i) (sym by.others.to_come i));
           side = by.others.side ∙ passed.side;
           is_open = by.others.is_open ∙ passed.is_open;
-          sends = sends_counted frames sends first.sends was.sends now.sends passed.sends by.sends;
+          sends = answers_sent first.side log frames first.sends was.sends now.sends awaits passed.sends by.sends;
           refused_sends = by.refused_sends ∙ passed.refused_sends;
           receives = omega (arith, by.others.receives, passed.receives, ap length same);
           faults = by.unfailed ∙ passed.faults;
@@ -155,26 +216,23 @@ passed_sent log sends first was now frames passed sent = answered (is_answered f
 -- the greeting is sent
 pub runs_begin : {S F : Type 0} (moves : Moves S F) (greeting : List Frame) (old : S) (first now : LineState) → IsFresh first
     → SendsAll greeting first now → Runs moves greeting old old first now
-runs_begin moves greeting old first now fresh sent =
-    let none : 0 + sends_of greeting ≡ sends_in greeting [] = omega arith in
-    record {
-      turns = [];
-      went = refl;
-      passed = subst (λ (q : List (Side × ℕ) × ℕ). HasPassed q.0 q.1 first now) (λ i. (sym (append-nil (said first.side greeting)) i, none i))
-          (passed_sent [] 0 first first now greeting (none_passed first fresh) sent);
-    }
+runs_begin moves greeting old first now fresh sent = record {
+  turns = [];
+  went = refl;
+  passed = subst (λ l. HasPassed l first now) (sym (append-nil (said first.side greeting)))
+      (passed_sent [] first first now greeting (answers_first first.side) (none_passed first fresh) sent);
+}
 
 -- and a turn after others
 pub runs_on : {S F : Type 0} (moves : Moves S F) (greeting : List Frame) (old mid new : S) (first was now : LineState)
     → Runs moves greeting old mid first was → TurnGoes moves mid new was now → Runs moves greeting old new first now
 runs_on moves greeting old mid new first was now runs goes =
-    let heard = passed_heard _ _ goes.room first was goes.heard goes.is.place goes.turn.frame runs.passed goes.arrives in
+    let heard = passed_heard _ goes.room first was goes.heard goes.is.place goes.turn.frame runs.passed goes.arrives in
     record {
       turns = runs.turns ++ goes.turn ∷ [];
       went = goes_more moves old mid new runs.turns goes.turn runs.went goes.is;
-      passed = subst (λ (q : List (Side × ℕ) × ℕ). HasPassed q.0 q.1 first now)
-          (λ i. (whole_more first.side greeting runs.turns goes.turn i, sym (sends_more greeting runs.turns goes.turn) i))
-          (passed_sent _ _ first goes.heard now goes.turn.answer heard goes.sends);
+      passed = subst (λ l. HasPassed l first now) (whole_more first.side greeting runs.turns goes.turn)
+          (passed_sent _ first goes.heard now goes.turn.answer (awaits_answer first.side (whole_log first.side greeting runs.turns) goes.turn.frame) heard goes.sends);
     }
 
 -- ---- how much came
@@ -249,152 +307,6 @@ module _ {S F : Type 0} (moves : Moves S F) (old new : S) (place : Expect) (fram
     unsent = subst (λ (q : Option ℕ × List Frame). IsUnsent q.0 q.1 fault heard now) (λ i. (code i, same i)) unsent;
   })
 
--- How a run ends, by its log, from the moments of the line.
-
--- ---- the line stays open, and this side's
-
-record StaysOpen (old new : LineState) : Type 0 where
-  side : new.side ≡ old.side
-  is_open : new.is_open ≡ old.is_open
-
-tried_open : (code : Option ℕ) (old new : LineState) → TriesRefusal code old new → StaysOpen old new
-tried_open None old new same = record { side = ap (λ (l : LineState). l.side) same; is_open = ap (λ (l : LineState). l.is_open) same }
-tried_open (Some code) old new (inl sends) = record { side = sends.others.side; is_open = sends.others.is_open }
-tried_open (Some code) old new (inr fails) = record { side = fails.1.others.side; is_open = fails.1.others.is_open }
-
-unsent_open : (code : Option ℕ) (frames : List Frame) (fault : LineFault) (old new : LineState) → IsUnsent code frames fault old new
-    → StaysOpen old new
-unsent_open code frames fault old new fails = elim fails.unsent [
-  | inl lacks ↦ tried_open code old new lacks.1
-  | inr refused ↦ record { side = refused.others.side; is_open = refused.others.is_open }
-]
-
--- ---- where no frame came
-
-lacks : (log : List (Side × ℕ)) (place : Expect) (bytes : List ℕ) (fault : LineFault) (first was now : LineState)
-    → was.reading.received ≡ length (sent_by (peer_of first.side) log)
-    → length (sent_by (peer_of first.side) now.log) ≡ length (sent_by (peer_of first.side) log) + length bytes
-    → was.faults ≡ first.faults → Breaks place bytes was now fault → Lacks place bytes fault first now
-lacks log place bytes (PeerEnded at) first was now received all same broken = (omega (arith, broken.0, received, all), broken.3, broken.4)
-lacks log place bytes (BadFrame at) first was now received all same broken = (broken.0, broken.1, omega (arith, broken.2, received, all))
-lacks log place bytes Link first was now received all same broken = subst (λ n. Rose n now.faults) same broken
-lacks log place bytes NoMemory first was now received all same broken = tt
-
-missing : {S F : Type 0} (moves : Moves S F) (log : List (Side × ℕ)) (sends room : ℕ) (mid new : S) (place : Expect) (fault : LineFault) (first was now : LineState)
-    → new ≡ mid → moves.expects mid ≡ Some place → HasPassed log sends first was → Fails place fault (record was { room = room }) now
-    → IsMissing moves log sends mid new fault first now
-missing moves log sends room mid new place fault first was now same expected passed fails =
-    let bytes = fails.bytes in
-    let logged = fails.came.logged ∙ (λ i. passed.logged i ++ bytes_from (peer_of (passed.side i)) bytes) in
-    let came = ap (sent_by (peer_of first.side)) logged ∙ came_more first.side log bytes in
-    let counted = ap length came ∙ length-append (sent_by (peer_of first.side) log) bytes in
-    record {
-      same = same;
-      place = place;
-      expected = expected;
-      rest = bytes;
-      comes = record {
-        part = fails.part;
-        logged = logged;
-        told = fails.came.told ∙ (λ i. appended (bytes_from (peer_of (passed.side i)) bytes) (passed.told i))
-            ∙ appended_more log (bytes_from (peer_of first.side) bytes) first.told
-            ∙ ap (λ l. appended l first.told) (sym logged);
-        came = passed.came ∙ ap (put_before (sent_by (peer_of first.side) log)) fails.came.came
-            ∙ before_more (sent_by (peer_of first.side) log) bytes now.to_come
-            ∙ ap (λ l. put_before l now.to_come) (sym came);
-        sends = fails.came.sends ∙ passed.sends;
-        refused_sends = fails.came.refused_sends ∙ passed.refused_sends;
-        receives = omega (arith, fails.receives, passed.receives, counted);
-        cause = lacks log place bytes fault first (record was { room = room }) now (ap (λ (r : Reading). r.received) passed.reading) counted passed.faults fails.broken;
-        count = record { later = omega (arith, fails.count.later, passed.faults); unfailed = λ no. fails.count.unfailed no ∙ passed.faults };
-      };
-    }
-
--- ---- all together
-
-module _ {S F : Type 0} (moves : Moves S F) (greeting : List Frame) (old : S) (first : LineState) where
-  pub run_over : (new : S) (now : LineState) → Runs moves greeting old new first now → moves.expects new ≡ None
-      → IsRun moves greeting old new Done first now
-  run_over new now runs none = record {
-    turns = runs.turns;
-    mid = new;
-    went = runs.went;
-    stops = record { same = refl; expected = none; passed = runs.passed };
-    side = runs.passed.side;
-    is_open = runs.passed.is_open;
-  }
-
-  pub run_ungreeted : (new : S) (fault : LineFault) (now : LineState) → IsFresh first → new ≡ old → IsUnsent None greeting fault first now
-      → IsRun moves greeting old new (Cut fault) first now
-  run_ungreeted new fault now fresh same unsent =
-      let open_still = unsent_open None greeting fault first now unsent in
-      record {
-        turns = [];
-        mid = old;
-        went = refl;
-        stops = inr (inr (record { none = refl; same = same; fresh = fresh; unsent = unsent }));
-        side = open_still.side;
-        is_open = open_still.is_open ∙ fresh.is_open;
-      }
-
-  run_refused : (mid new : S) (fault : F) (was now : LineState) → Runs moves greeting old mid first was → RefusesFrame moves mid new fault was now
-      → IsRun moves greeting old new (Refused fault) first now
-  run_refused mid new fault was now runs refuses =
-      let heard = passed_heard _ _ refuses.room first was refuses.heard refuses.place refuses.frame runs.passed refuses.arrives in
-      let open_still = tried_open refuses.code refuses.heard now refuses.tried in
-      record {
-        turns = runs.turns;
-        mid = mid;
-        went = runs.went;
-        stops = record {
-          place = refuses.place;
-          expected = refuses.expected;
-          frame = refuses.frame;
-          allowed = refuses.arrives.whole.allowed;
-          heard = refuses.heard;
-          passed = heard;
-          code = refuses.code;
-          refused = refuses.refused;
-          tried = refuses.tried;
-        };
-        side = open_still.side ∙ heard.side;
-        is_open = open_still.is_open ∙ heard.is_open;
-      }
-
-  run_unsent : (mid new : S) (fault : LineFault) (was now : LineState) → Runs moves greeting old mid first was → LeavesUnsent moves mid new fault was now
-      → IsRun moves greeting old new (Cut fault) first now
-  run_unsent mid new fault was now runs leaves =
-      let heard = passed_heard _ _ leaves.room first was leaves.heard leaves.is.place leaves.turn.frame runs.passed leaves.arrives in
-      let open_still = unsent_open _ leaves.turn.answer fault leaves.heard now leaves.unsent in
-      record {
-        turns = runs.turns;
-        mid = mid;
-        went = runs.went;
-        stops = inr (inl (record { turn = leaves.turn; is = leaves.is; heard = leaves.heard; passed = heard; unsent = leaves.unsent }));
-        side = open_still.side ∙ heard.side;
-        is_open = open_still.is_open ∙ heard.is_open;
-      }
-
-  run_lacking : (mid new : S) (fault : LineFault) (was now : LineState) → Runs moves greeting old mid first was → LacksFrame moves mid new fault was now
-      → IsRun moves greeting old new (Cut fault) first now
-  run_lacking mid new fault was now runs lacking = record {
-    turns = runs.turns;
-    mid = mid;
-    went = runs.went;
-    stops = inl (missing moves (whole_log first.side greeting runs.turns) (sends_in greeting runs.turns) lacking.room mid new lacking.place fault first
-        was now lacking.same lacking.expected runs.passed lacking.fails);
-    side = lacking.fails.came.side ∙ runs.passed.side;
-    is_open = lacking.fails.came.is_open ∙ runs.passed.is_open;
-  }
-
-  -- after turns that passed, one that stops
-  pub run_stops : (mid new : S) (outcome : Outcome F) (was now : LineState) → Runs moves greeting old mid first was
-      → TurnStops moves mid new outcome was now → IsRun moves greeting old new outcome first now
-  run_stops mid new Done was now runs stops = absurd stops
-  run_stops mid new (Refused fault) was now runs stops = run_refused mid new fault was now runs stops
-  run_stops mid new (Cut fault) was now runs (inl leaves) = run_unsent mid new fault was now runs leaves
-  run_stops mid new (Cut fault) was now runs (inr lacking) = run_lacking mid new fault was now runs lacking
-
 -- ---- what holds at first and is kept by each turn holds in the end
 
 module _ {S F : Type 0} (moves : Moves S F) (P : S → List Turn → Type 0)
@@ -407,108 +319,3 @@ module _ {S F : Type 0} (moves : Moves S F) (P : S → List Turn → Type 0)
 
   pub goes_keeps : (old new : S) (turns : List Turn) → P old [] → Goes moves old turns new → P new turns
   goes_keeps old new turns holds went = keeps_after old new [] turns holds went
-
--- ---- a run of states that are seen as others is a run of those
-
-module _ {S T F : Type 0} (view : S → T) (moves : Moves T F) where
-  turn_seen : (old : S) (turn : Turn) (new : S) → IsTurn (seen_as view moves) old turn new → IsTurn moves (view old) turn (view new)
-  turn_seen old turn new is = record { place = is.place; expected = is.expected; allowed = is.allowed; answered = is.answered }
-
-  goes_seen : (old : S) (turns : List Turn) (new : S) → Goes (seen_as view moves) old turns new → Goes moves (view old) turns (view new)
-  goes_seen old [] new went = ap view went
-  goes_seen old (turn ∷ turns) new went = (view went.0, turn_seen old turn went.0 went.1, goes_seen went.0 turns new went.2)
-
-  stops_seen : (greeting : List Frame) (turns : List Turn) (mid new : S) (outcome : Outcome F) (first now : LineState)
-      → StopsBy (seen_as view moves) greeting turns mid new outcome first now → StopsBy moves greeting turns (view mid) (view new) outcome first now
-  stops_seen greeting turns mid new Done first now stop = record { same = ap view stop.same; expected = stop.expected; passed = stop.passed }
-  stops_seen greeting turns mid new (Refused fault) first now stop = record {
-    place = stop.place;
-    expected = stop.expected;
-    frame = stop.frame;
-    allowed = stop.allowed;
-    heard = stop.heard;
-    passed = stop.passed;
-    code = stop.code;
-    refused = stop.refused;
-    tried = stop.tried;
-  }
-  stops_seen greeting turns mid new (Cut fault) first now (inl stop) = inl (record {
-    same = ap view stop.same;
-    place = stop.place;
-    expected = stop.expected;
-    rest = stop.rest;
-    comes = stop.comes;
-  })
-  stops_seen greeting turns mid new (Cut fault) first now (inr (inl stop)) = inr (inl (record {
-    turn = stop.turn;
-    is = turn_seen mid stop.turn new stop.is;
-    heard = stop.heard;
-    passed = stop.passed;
-    unsent = stop.unsent;
-  }))
-  stops_seen greeting turns mid new (Cut fault) first now (inr (inr stop)) =
-      inr (inr (record { none = stop.none; same = ap view stop.same; fresh = stop.fresh; unsent = stop.unsent }))
-
-  pub run_seen : (greeting : List Frame) (old new : S) (outcome : Outcome F) (first now : LineState)
-      → IsRun (seen_as view moves) greeting old new outcome first now → IsRun moves greeting (view old) (view new) outcome first now
-  run_seen greeting old new outcome first now run = record {
-    turns = run.turns;
-    mid = view run.mid;
-    went = goes_seen old run.turns run.mid run.went;
-    stops = stops_seen greeting run.turns run.mid new outcome first now run.stops;
-    side = run.side;
-    is_open = run.is_open;
-  }
-
--- ---- what came of the peer's bytes is what the link no longer has to come
-
--- of moments between which nothing but own bytes are logged
-own_bytes_logged : (first was now : LineState) (bytes : List ℕ) → was.side ≡ first.side → now.log ≡ was.log ++ bytes_from was.side bytes → now.to_come ≡ was.to_come
-    → first.to_come ≡ put_before (sent_by (peer_of first.side) was.log) was.to_come
-    → first.to_come ≡ put_before (sent_by (peer_of first.side) now.log) now.to_come
-own_bytes_logged first was now bytes side logged same came =
-    let own : sent_by (peer_of first.side) now.log ≡ sent_by (peer_of first.side) was.log =
-    ap (sent_by (peer_of first.side)) (logged ∙ ap (λ (s : Side). was.log ++ bytes_from s bytes) side) ∙ came_same first.side was.log bytes in
-    came ∙ (λ i. put_before (sym own i) (sym same i))
-
-none_logged : (first was now : LineState) → now.log ≡ was.log → now.to_come ≡ was.to_come
-    → first.to_come ≡ put_before (sent_by (peer_of first.side) was.log) was.to_come
-    → first.to_come ≡ put_before (sent_by (peer_of first.side) now.log) now.to_come
-none_logged first was now log same came = came ∙ (λ i. put_before (sent_by (peer_of first.side) (sym log i)) (sym same i))
-
-tried_came : (code : Option ℕ) (first was now : LineState) → was.side ≡ first.side → TriesRefusal code was now
-    → first.to_come ≡ put_before (sent_by (peer_of first.side) was.log) was.to_come
-    → first.to_come ≡ put_before (sent_by (peer_of first.side) now.log) now.to_come
-tried_came None first was now side same came = none_logged first was now (ap (λ (l : LineState). l.log) same) (ap (λ (l : LineState). l.to_come) same) came
-tried_came (Some code) first was now side (inl sends) came = own_bytes_logged first was now (refuse_frame code) side sends.logged sends.others.to_come came
-tried_came (Some code) first was now side (inr fails) came = none_logged first was now fails.1.logged fails.1.others.to_come came
-
-unsent_came : (code : Option ℕ) (frames : List Frame) (fault : LineFault) (first was now : LineState) → was.side ≡ first.side
-    → IsUnsent code frames fault was now → first.to_come ≡ put_before (sent_by (peer_of first.side) was.log) was.to_come
-    → first.to_come ≡ put_before (sent_by (peer_of first.side) now.log) now.to_come
-unsent_came code frames fault first was now side fails came = elim fails.unsent [
-  | inl lacks ↦ tried_came code first was now side lacks.1 came
-  | inr refused ↦ none_logged first was now refused.logged refused.others.to_come came
-]
-
-passed_came : (log : List (Side × ℕ)) (number : ℕ) (first now : LineState) → HasPassed log number first now
-    → first.to_come ≡ put_before (sent_by (peer_of first.side) now.log) now.to_come
-passed_came log number first now passed = passed.came ∙ ap (λ l. put_before (sent_by (peer_of first.side) l) now.to_come) (sym passed.logged)
-
--- however a session stopped
-pub stops_came : {S F : Type 0} (moves : Moves S F) (greeting : List Frame) (turns : List Turn) (mid new : S) (outcome : Outcome F) (first now : LineState)
-    → StopsBy moves greeting turns mid new outcome first now → first.to_come ≡ put_before (sent_by (peer_of first.side) now.log) now.to_come
-stops_came moves greeting turns mid new Done first now stop = passed_came _ _ first now stop.passed
-stops_came moves greeting turns mid new (Refused fault) first now stop =
-    tried_came stop.code first stop.heard now stop.passed.side stop.tried (passed_came _ _ first stop.heard stop.passed)
-stops_came moves greeting turns mid new (Cut fault) first now (inl stop) = stop.came
-stops_came moves greeting turns mid new (Cut fault) first now (inr (inl stop)) =
-    unsent_came _ stop.turn.answer fault first stop.heard now stop.passed.side stop.unsent (passed_came _ _ first stop.heard stop.passed)
-stops_came moves greeting turns mid new (Cut fault) first now (inr (inr stop)) =
-    unsent_came None greeting fault first first now refl stop.unsent (passed_came [] 0 first first (none_passed first stop.fresh))
-
-pub run_came : {S F : Type 0} (moves : Moves S F) (greeting : List Frame) (old new : S) (outcome : Outcome F) (first now : LineState) (side : Side)
-    → IsRun moves greeting old new outcome first now → first.side ≡ side → first.to_come ≡ put_before (sent_by (peer_of side) now.log) now.to_come
-run_came moves greeting old new outcome first now side run same =
-    subst (λ (s : Side). first.to_come ≡ put_before (sent_by (peer_of s) now.log) now.to_come) same
-    (stops_came moves greeting run.turns run.mid new outcome first now run.stops)

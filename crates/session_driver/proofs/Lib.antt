@@ -1,3 +1,4 @@
 pub mod Going
 pub mod Rows
 pub mod Rounds
+pub mod Left

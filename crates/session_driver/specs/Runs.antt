@@ -1,16 +1,16 @@
 -- A session over a line: the frames that were taken and answered, in order, and how it stopped.
-use Rattle.std.specs.Prelude.{ℕ, ◌+◌, List, [], ◌∷◌, ◌++◌, flat_map, ◌≡◌, ◌⊎◌, ◌≤◌, length, true, Option, None, Some, IfSome}
+use Rattle.std.specs.Prelude.{ℕ, ◌+◌, List, [], ◌∷◌, ◌++◌, flat_map, ◌≡◌, ◌⊎◌, ◌≤◌, length, true, Option, None, Some}
 use Rattle.zk_model.specs.Transcript.{bytes_from, sent_by, refuse_frame}
-use Rattle.zk_model.specs.Frames.{Frame, frame_spelling, Allows, IsFirstBad}
+use Rattle.zk_model.specs.Frames.{Frame, frame_spelling, Allows}
 use Rattle.zk_model.specs.declared.Side.{Side}
+use Rattle.zk_model.specs.declared.Side.TheVariants.{Prover, Verifier}
 use Rattle.frame_link.specs.Sides.{peer_of}
 use Rattle.zk_model.specs.declared.Expect.{Expect}
-use Rattle.zk_port.specs.Counts.{Rose}
 use Rattle.zk_port.specs.Logs.{appended, put_before}
 use Rattle.proof_frames.specs.Readings.{IsShortPlace}
-use Rattle.frame_link.specs.Lines.{LineState, Arrives, Fails, Sends, IsSendRefused, CountsFault, IsPartOnly, counted_times}
+use Rattle.frame_link.specs.Lines.{LineState, Arrives, Fails, Sends, IsSendRefused, counted_times}
 use Rattle.frame_link.specs.declared.fault.LineFault.{LineFault}
-use Rattle.frame_link.specs.declared.fault.LineFault.TheVariants.{PeerEnded, BadFrame, Link, NoMemory}
+use Rattle.frame_link.specs.declared.fault.LineFault.TheVariants.{NoMemory}
 use Rattle.session_driver.specs.declared.drive.Outcome.{Outcome}
 use Rattle.session_driver.specs.declared.drive.Outcome.TheVariants.{Done, Refused, Cut}
 
@@ -33,19 +33,20 @@ turn_log side turn = bytes_from (peer_of side) (frame_spelling turn.frame) ++ sa
 abbrev pub whole_log : Side → List Frame → List Turn → List (Side × ℕ)
 whole_log side greeting turns = said side greeting ++ flat_map (turn_log side) turns
 
--- how many sends frames take that go out together: one, or none where there are no frames
-abbrev pub sends_of : List Frame → ℕ
-sends_of [] = 0
-sends_of (frame ∷ frames) = 1
+-- what is said by this side, after a byte of that side, is a new answer of the first's
+abbrev pub new_answer : Side → Side → Side → ℕ
+new_answer Prover Verifier Prover = 1
+new_answer Verifier Prover Verifier = 1
+new_answer side last next = 0
 
--- how many the answers of turns take
-abbrev pub answers_sent : List Turn → ℕ
-answers_sent [] = 0
-answers_sent (turn ∷ turns) = sends_of turn.answer + answers_sent turns
+-- how many answers of a side a log has after a byte of that side: runs of its bytes
+abbrev pub answers_behind : Side → Side → List (Side × ℕ) → ℕ
+answers_behind side last [] = 0
+answers_behind side last (entry ∷ log) = new_answer side last entry.0 + answers_behind side entry.0 log
 
--- how many a greeting takes, and turns after it
-abbrev pub sends_in : List Frame → List Turn → ℕ
-sends_in greeting turns = sends_of greeting + answers_sent turns
+-- how many a log has, a greeting too
+abbrev pub answers_in : Side → List (Side × ℕ) → ℕ
+answers_in side log = answers_behind side (peer_of side) log
 
 -- ---- the end of a session
 
@@ -99,16 +100,16 @@ pub record IsFresh (line : LineState) : Type 0 where
   pub reading : line.reading ≡ record { received = 0; expected = None; taken = []; bad = None }
   pub is_open : line.is_open ≡ true
 
--- What passed since a first moment: all of it is logged, and the link tells it, in so many sends, of which none was refused, and at most
--- as many receives as bytes came; no frame is under way, and nothing failed.
-pub record HasPassed (log : List (Side × ℕ)) (number : ℕ) (first now : LineState) : Type 0 where
+-- What passed since a first moment: all of it is logged, and the link tells it, each answer by one send, of which none was refused, and
+-- at most as many receives as bytes came; no frame is under way, and nothing failed.
+pub record HasPassed (log : List (Side × ℕ)) (first now : LineState) : Type 0 where
   pub logged : now.log ≡ log
   pub reading : now.reading ≡ record { received = length (sent_by (peer_of first.side) log); expected = None; taken = []; bad = None }
   pub told : now.told ≡ appended log first.told
   pub came : first.to_come ≡ put_before (sent_by (peer_of first.side) log) now.to_come
   pub side : now.side ≡ first.side
   pub is_open : now.is_open ≡ true
-  pub sends : now.sends ≡ counted_times number first.sends
+  pub sends : now.sends ≡ counted_times (answers_in first.side log) first.sends
   pub refused_sends : now.refused_sends ≡ first.refused_sends
   pub receives : now.receives ≤ first.receives + length (sent_by (peer_of first.side) log)
   pub faults : now.faults ≡ first.faults
@@ -184,104 +185,4 @@ TurnStops moves old new (Cut fault) line now = LeavesUnsent moves old new fault 
 pub record Runs {S F : Type 0} (moves : Moves S F) (greeting : List Frame) (old mid : S) (first was : LineState) : Type 0 where
   pub turns : List Turn
   pub went : Goes moves old turns mid
-  pub passed : HasPassed (whole_log first.side greeting turns) (sends_in greeting turns) first was
-
--- Why no frame came: the peer has ended; one of the bytes that came is bad; the link failed; memory was missing.
-abbrev pub Lacks : Expect → List ℕ → LineFault → LineState → LineState → Type 0
-Lacks place rest (PeerEnded at) first now =
-    (at ≡ length (sent_by (peer_of first.side) now.log))
-    × IfSome now.ended (λ ended. ended ≡ true)
-    × IfSome now.to_come (λ bytes. bytes ≡ [])
-Lacks place rest (BadFrame at) first now =
-    (n : ℕ) × IsFirstBad place rest n × (at + length rest ≡ length (sent_by (peer_of first.side) now.log) + n)
-Lacks place rest Link first now = Rose first.faults now.faults
-Lacks place rest NoMemory first now = Unit {0}
-
--- after this log and so many sends, of which none was refused, these bytes of a frame came, which are no whole one; nothing more was sent
-pub record ComesInPart
-    (log : List (Side × ℕ))
-    (number : ℕ)
-    (place : Expect)
-    (rest : List ℕ)
-    (fault : LineFault)
-    (first now : LineState) : Type 0 where
-  pub part : IsPartOnly place fault rest
-  pub open part use *
-  pub logged : now.log ≡ log ++ bytes_from (peer_of first.side) rest
-  pub told : now.told ≡ appended now.log first.told
-  pub came : first.to_come ≡ put_before (sent_by (peer_of first.side) now.log) now.to_come
-  pub sends : now.sends ≡ counted_times number first.sends
-  pub refused_sends : now.refused_sends ≡ first.refused_sends
-  pub receives : now.receives ≤ first.receives + length (sent_by (peer_of first.side) now.log) + 1
-  pub cause : Lacks place rest fault first now
-  pub count : CountsFault fault first now
-
-module _ {S F : Type 0} (moves : Moves S F) (log : List (Side × ℕ)) (number : ℕ) (mid new : S) where
-  -- nothing more was expected
-  pub record IsOver (first now : LineState) : Type 0 where
-    pub same : new ≡ mid
-    pub expected : moves.expects new ≡ None
-    pub passed : HasPassed log number first now
-
-  -- a frame came, and was refused; the refusal that went out is logged, or not
-  pub record IsRefusal (fault : F) (first now : LineState) : Type 0 where
-    pub place : Expect
-    pub expected : moves.expects mid ≡ Some place
-    pub frame : Frame
-    pub allowed : Allows place frame
-    pub heard : LineState
-    pub passed : HasPassed (log ++ bytes_from (peer_of first.side) (frame_spelling frame)) number first heard
-    pub code : Option ℕ
-    pub refused : moves.refuses mid frame fault code new
-    pub tried : TriesRefusal code heard now
-
-  -- the frame that was expected did not come, but these bytes of it
-  pub record IsMissing (fault : LineFault) (first now : LineState) : Type 0 where
-    pub same : new ≡ mid
-    pub place : Expect
-    pub expected : moves.expects mid ≡ Some place
-    pub rest : List ℕ
-    pub comes : ComesInPart log number place rest fault first now
-    pub open comes use *
-
-  -- a frame came and was answered, but the answer was not sent
-  pub record IsUnanswered (fault : LineFault) (first now : LineState) : Type 0 where
-    pub turn : Turn
-    pub is : IsTurn moves mid turn new
-    pub heard : LineState
-    pub passed :
-        HasPassed (log ++ bytes_from (peer_of first.side) (frame_spelling turn.frame)) number first heard
-    pub unsent : IsUnsent (moves.lack_code mid) turn.answer fault heard now
-
--- the greeting was not sent, and no turn passed
-pub record IsUngreeted {S : Type 0} (greeting : List Frame) (turns : List Turn) (mid new : S) (fault : LineFault) (first now : LineState) : Type 0 where
-  pub none : turns ≡ []
-  pub same : new ≡ mid
-  pub fresh : IsFresh first
-  pub unsent : IsUnsent None greeting fault first now
-
--- how a session stopped after these turns
-abbrev pub StopsBy : {S F : Type 0} → Moves S F → List Frame → List Turn → S → S → Outcome F → LineState → LineState → Type 0
-StopsBy moves greeting turns mid new Done first now =
-    IsOver moves (whole_log first.side greeting turns) (sends_in greeting turns) mid new first now
-StopsBy moves greeting turns mid new (Refused fault) first now =
-    IsRefusal moves (whole_log first.side greeting turns) (sends_in greeting turns) mid new fault first now
-StopsBy moves greeting turns mid new (Cut fault) first now =
-    IsMissing moves (whole_log first.side greeting turns) (sends_in greeting turns) mid new fault first now
-    ⊎ IsUnanswered moves (whole_log first.side greeting turns) (sends_in greeting turns) mid new fault first now
-    ⊎ IsUngreeted greeting turns mid new fault first now
-
--- A whole session: these turns passed, in order, and are logged; and then it stopped so. The line is still open.
-pub record IsRun
-    {S F : Type 0}
-    (moves : Moves S F)
-    (greeting : List Frame)
-    (old new : S)
-    (outcome : Outcome F)
-    (first now : LineState) : Type 0 where
-  pub turns : List Turn
-  pub mid : S
-  pub went : Goes moves old turns mid
-  pub stops : StopsBy moves greeting turns mid new outcome first now
-  pub side : now.side ≡ first.side
-  pub is_open : now.is_open ≡ true
+  pub passed : HasPassed (whole_log first.side greeting turns) first was

@@ -4,7 +4,8 @@ ghost use Rattle.zk_model.specs.Transcript.{refuse_frame};
 ghost use Rattle.proof_frames.specs.Frames.{frame_value, IsShort};
 ghost use Rattle.proof_frames.specs.Readings.{IsShortPlace};
 ghost use Rattle.frame_link.specs.Lines.{Arrives, Fails};
-ghost use Rattle.session_driver.specs.Runs.{IsFresh, IsRun, IsUnsent, Runs, SendsAll, TriesRefusal, TurnGoes, TurnStops, moves_of};
+ghost use Rattle.session_driver.specs.Leaving.{IsRun};
+ghost use Rattle.session_driver.specs.Runs.{IsFresh, IsUnsent, Runs, SendsAll, TriesRefusal, TurnGoes, TurnStops, moves_of};
 ghost use Rattle.session_driver.specs.declared.drive.Outcome.TheVariants.{Cut, Done};
 ghost use Rattle.frame_link.specs.declared.fault.LineFault.TheVariants.{NoMemory};
 

@@ -8,15 +8,15 @@ use Rattle.zk_model.specs.declared.Span.{Span}
 use Rattle.zk_port.specs.Disks.{DiskState}
 use Rattle.lease_core.specs.Machine.{ceiling_for}
 use Rattle.lease_words.specs.Views.{end_of, inside, times_drawn, units_drawn}
-use Rattle.lease_words.specs.Calls.{known_of, greatest_end, all_entries, all_met_by, IsApart}
+use Rattle.lease_words.specs.Calls.{known_of, greatest_end, all_entries, all_met_by, AreEntriesApart}
 use Rattle.lease_words.specs.declared.pass.Pass.{Pass}
 use Rattle.lease_words.specs.declared.view.Entry.{Entry}
 use Rattle.lease_words.proofs.Whole.{two_le, at_most_one, within}
 use Rattle.lease_store.specs.Leases.{IsClosed}
 use Rattle.lease_store.specs.declared.LeaseFault.{LeaseFault}
 use Rattle.lease_store.specs.declared.LeaseFault.TheVariants as lease
-use Rattle.session_pool.specs.Notes.{AreApart, IsBetween, IsRefusedBy, IsRefusedAmong, IsLeft, IsUnused, faults_met}
-use Rattle.session_pool.specs.Works.{has_unit, IsUpTo, IsReachedBy, IsReached, AllowsMark, IsWork, most_known}
+use Rattle.session_pool.specs.Notes.{AreGrantsApart, IsBetween, IsRefusedBy, IsRefusedAmong, IsLeft, IsUnused, faults_met}
+use Rattle.session_pool.specs.Works.{counts_unit, IsUpTo, IsReachedBy, IsPoolReached, AllowsMark, IsWork, most_known}
 use Rattle.session_pool.proofs.Works.{if_weaker}
 
 covers : (low high unit : ℕ) → low ≤ unit → unit < high → inside low high unit ≡ 1
@@ -35,7 +35,7 @@ none_else (e ∷ es) low high unit a b h =
     let i = none_else es low high unit a b (λ k d l. h (suc k) d (omega arith)) in
     omega (arith, sum_by-cons (λ (z : Entry). inside z.start (end_of z) unit) e es, here, i)
 
-pub apart_once : (unit : ℕ) (es : List Entry) → AllPairs IsApart es → times_drawn unit es ≤ 1
+pub apart_once : (unit : ℕ) (es : List Entry) → AllPairs AreEntriesApart es → times_drawn unit es ≤ 1
 apart_once unit [] h = omega arith
 apart_once unit (e ∷ es) h =
     let split = sum_by-cons (λ (z : Entry). inside z.start (end_of z) unit) e es in
@@ -48,7 +48,7 @@ apart_once unit (e ∷ es) h =
     (cases_lt 0 (inside e.start (end_of e) unit))
 
 apart_two : (units others total known : ℕ) (a b : Option Span) → IsUpTo units total known a → IsUpTo others total known b
-    → ((unit : ℕ) → has_unit a unit + has_unit b unit ≤ 1) → AreApart a b
+    → ((unit : ℕ) → counts_unit a unit + counts_unit b unit ≤ 1) → AreGrantsApart a b
 apart_two units others total known None b u v once = tt
 apart_two units others total known (Some s) None u v once = tt
 apart_two units others total known (Some s) (Some t) u v once = ⊎_elim
@@ -69,7 +69,7 @@ drawn_above base unit (e ∷ es) h some = ⊎_elim
     (cases_lt 0 (inside e.start (end_of e) unit))
 
 between : (units total base known ceiling : ℕ) (es : List Entry) (a : Option Span) → All (λ e. base ≤ e.start) es → known ≤ ceiling → IsUpTo units total known a
-    → ((unit : ℕ) → has_unit a unit ≤ times_drawn unit es) → IsBetween units base ceiling a
+    → ((unit : ℕ) → counts_unit a unit ≤ times_drawn unit es) → IsBetween units base ceiling a
 between units total base known ceiling es None above low u once = tt
 between units total base known ceiling es (Some s) above low u once =
     let c = covers s.start s.end s.start (omega arith) u.0 in let o = once s.start in
@@ -100,7 +100,7 @@ refused_by units own total reach drawn taken base (lease.Broken first) low few r
 
 refused_among : {M : Type 0} (size : M → ℕ) (base total : ℕ) (entries : List Entry) (notes : List M) (m : M) (fault : LeaseFault)
     → greatest_end 0 entries ≤ base + units_drawn entries → units_drawn entries ≤ sum_by size notes
-    → IsReached size total entries notes (size m) fault → IsRefusedAmong size base total notes m fault
+    → IsPoolReached size total entries notes (size m) fault → IsRefusedAmong size base total notes m fault
 refused_among size base total entries notes m fault low few r = record {
   drawer = r.drawer;
   among = r.among;
@@ -144,24 +144,24 @@ module _ (start disk : DiskState) (id : List ℕ) (total : ℕ) (ps : List Pass)
 
 pub record IsRun {M : Type 0} (granted : M → Option Span) (refused : M → Option LeaseFault) (fresh : Type 0) (size : M → ℕ) (notes : List M)
     (start disk : DiskState) (id : List ℕ) (base total workers : ℕ) : Type 0 where
-  pub apart : AllPairs (λ m n. AreApart (granted m) (granted n)) notes
+  pub apart : AllPairs (λ m n. AreGrantsApart (granted m) (granted n)) notes
   pub left : IsLeft fresh start disk id base total workers size granted refused notes
   pub refusals : fresh → All (λ m. IfSome (refused m) (IsRefusedAmong size base total notes m)) notes
 
 module _ {M : Type 0} (granted : M → Option Span) (refused : M → Option LeaseFault) (is_note : M → Type 0) (fresh : Type 0) (size : M → ℕ) (notes : List M) (ps : List Pass)
     (start disk : DiskState) (id : List ℕ) (base total workers : ℕ) (count : length ps ≡ workers)
     (w : IsWork granted refused is_note fresh size total (all_entries ps) (most_known ps) (λ mark. All (λ p. AllowsMark p mark) ps) notes) (few : faults_met refused notes ≤ all_met_by ps) (closed : IsClosed start disk id base total ps) where
-  all_apart : AllPairs (λ m n. AreApart (granted m) (granted n)) notes
+  all_apart : AllPairs (λ m n. AreGrantsApart (granted m) (granted n)) notes
   all_apart i j d h l =
       apart_two (size (get_or notes i d)) (size (get_or notes j d)) total (most_known ps) (granted (get_or notes i d)) (granted (get_or notes j d)) (w.upto i d (omega (arith, h, l))) (w.upto j d l)
-      (λ unit. let two = two_le (λ (m : M). has_unit (granted m) unit) notes i j d h l in let a = w.once unit in let b = apart_once unit (all_entries ps) closed.gathered.apart in omega (arith, two, a, b))
+      (λ unit. let two = two_le (λ (m : M). counts_unit (granted m) unit) notes i j d h l in let a = w.once unit in let b = apart_once unit (all_entries ps) closed.gathered.apart in omega (arith, two, a, b))
 
   all_left : IsLeft fresh start disk id base total workers size granted refused notes
   all_left = record {
     passes = ps;
     closed = closed;
     spans = λ k d l. between (size (get_or notes k d)) total base (most_known ps) closed.ceiling (all_entries ps) (granted (get_or notes k d)) closed.gathered.above (known_low closed.ceiling ps closed.gathered.known) (w.upto k d l)
-        (λ unit. let a = get_or-le-sum_by (λ (m : M). has_unit (granted m) unit) notes k d l in let b = w.once unit in omega (arith, a, b));
+        (λ unit. let a = get_or-le-sum_by (λ (m : M). counts_unit (granted m) unit) notes k d l in let b = w.once unit in omega (arith, a, b));
     within = λ k d l. inside_total (size (get_or notes k d)) total (most_known ps) (granted (get_or notes k d)) (w.upto k d l);
     marked = λ k d l. (w.marked closed.mark closed.gathered.marks k d l).0;
     told = λ k d l. (w.marked closed.mark closed.gathered.marks k d l).1;
@@ -173,7 +173,7 @@ module _ {M : Type 0} (granted : M → Option Span) (refused : M → Option Leas
   all_refused : fresh → All (λ m. IfSome (refused m) (IsRefusedAmong size base total notes m)) notes
   all_refused f k d l =
       let a = greatest_base base (all_entries ps) in let b = closed.gathered.tile in
-      if_weaker (IsReached size total (all_entries ps) notes (size (get_or notes k d))) (IsRefusedAmong size base total notes (get_or notes k d))
+      if_weaker (IsPoolReached size total (all_entries ps) notes (size (get_or notes k d))) (IsRefusedAmong size base total notes (get_or notes k d))
       (λ fault. refused_among size base total (all_entries ps) notes (get_or notes k d) fault (omega (arith, a, b)) (w.drawn f))
       (refused (get_or notes k d)) (w.reached f k d l)
 

@@ -13,11 +13,11 @@ use Rattle.lease_words.specs.Calls.{seen, entries_of, known_of, mark_of, met_of,
 use Rattle.lease_words.specs.declared.fault.Exhausted.{Exhausted as Refusal}
 use Rattle.lease_words.specs.declared.pass.Pass.{Pass}
 use Rattle.lease_words.specs.declared.view.Entry.{Entry}
-use Rattle.lease_store.specs.Leases.{Goes, IsPassAt}
+use Rattle.lease_store.specs.Leases.{PassGoesOn, IsPassAt}
 use Rattle.lease_store.specs.declared.LeaseFault.{LeaseFault}
 use Rattle.lease_store.specs.declared.LeaseFault.TheVariants as lease
-use Rattle.session_pool.specs.Notes.{granted_by, Lends, IsServed, IsMarked, TellsMark, meets_fault}
-use Rattle.session_pool.specs.Works.{has_unit, IsUpTo, IsReachedBy, IsReached, AllowsMark, IsWork, IsKept, IsWorker, IsShiftOf}
+use Rattle.session_pool.specs.Notes.{granted_by, Lends, IsSessionServed, IsMarked, TellsMark, meets_fault}
+use Rattle.session_pool.specs.Works.{counts_unit, IsUpTo, IsReachedBy, IsPoolReached, AllowsMark, IsWork, IsRefusalKept, IsWorker, IsShiftOf}
 
 -- ---- facts that stay
 
@@ -43,7 +43,7 @@ reached_by_more units own more total reach far drawn rest taken all high spare (
 pub reached_more : {M : Type 0} (size : M → ℕ) (total own more : ℕ) (d e : List Entry) (xs ys : List M)
     → greatest_end 0 d ≤ greatest_end 0 e → more + units_drawn e + sum_by size xs ≤ own + units_drawn d + sum_by size ys
     → ((x : M) → Contains xs x → Contains ys x) → (fault : LeaseFault)
-    → IsReached size total d xs own fault → IsReached size total e ys more fault
+    → IsPoolReached size total d xs own fault → IsPoolReached size total e ys more fault
 reached_more size total own more d e xs ys high spare keeps fault r = record {
   drawer = r.drawer;
   among = keeps r.drawer r.among;
@@ -77,24 +77,24 @@ greatest_append (x ∷ xs) ys = let i = greatest_append xs ys in omega (arith, i
 -- what one session adds
 pub record IsStep {M : Type 0} (fresh : Type 0) (size : M → ℕ) (total : ℕ) (d e : List Entry) (k l : ℕ) (Before Now : ℕ → Type 0) (notes : List M) (x : M)
     (granted : Option Span) (refused : Option LeaseFault) : Type 0 where
-  pub once : (unit : ℕ) → times_drawn unit d + has_unit granted unit ≤ times_drawn unit e
+  pub once : (unit : ℕ) → times_drawn unit d + counts_unit granted unit ≤ times_drawn unit e
   pub higher : k ≤ l
   pub upto : IsUpTo (size x) total l granted
   pub stays : (mark : ℕ) → Now mark → Before mark
   pub marked : (mark : ℕ) → Now mark → IsMarked mark refused × TellsMark mark refused
   pub drawn : units_drawn e ≤ units_drawn d + size x
   pub further : greatest_end 0 d ≤ greatest_end 0 e
-  pub reached : fresh → IfSome refused (IsReached size total e (notes ++ x ∷ []) (size x))
+  pub reached : fresh → IfSome refused (IsPoolReached size total e (notes ++ x ∷ []) (size x))
 
 module _ {M : Type 0} (granted : M → Option Span) (refused : M → Option LeaseFault) (is_note : M → Type 0) (fresh : Type 0) (size : M → ℕ) (total : ℕ) where
   -- what each note of a list is refused by
   abbrev Reached : List Entry → List M → M → Type 0
-  Reached entries notes m = IfSome (refused m) (IsReached size total entries notes (size m))
+  Reached entries notes m = IfSome (refused m) (IsPoolReached size total entries notes (size m))
 
   reached_on : (d e : List Entry) (xs ys : List M) → greatest_end 0 d ≤ greatest_end 0 e → units_drawn e + sum_by size xs ≤ units_drawn d + sum_by size ys
       → ((x : M) → Contains xs x → Contains ys x) → (zs : List M) → All (Reached d xs) zs → All (Reached e ys) zs
   reached_on d e xs ys high spare keeps zs = All-weaker (Reached d xs) (Reached e ys)
-      (λ m. if_weaker (IsReached size total d xs (size m)) (IsReached size total e ys (size m))
+      (λ m. if_weaker (IsPoolReached size total d xs (size m)) (IsPoolReached size total e ys (size m))
       (reached_more size total (size m) (size m) d e xs ys high (omega (arith, spare)) keeps) (refused m)) zs
 
   pub pushed : (d e : List Entry) (k l : ℕ) (Before Now : ℕ → Type 0) (notes : List M) (x : M)
@@ -103,7 +103,7 @@ module _ {M : Type 0} (granted : M → Option Span) (refused : M → Option Leas
       → IsWork granted refused is_note fresh size total e l Now (notes ++ x ∷ [])
   pushed d e k l Before Now notes x w is s = record {
     rightly = All-push is_note notes x w.rightly is;
-    once = λ unit. let a = w.once unit in let b = s.once unit in omega (arith, sum_by_push (λ (y : M). has_unit (granted y) unit) notes x, a, b);
+    once = λ unit. let a = w.once unit in let b = s.once unit in omega (arith, sum_by_push (λ (y : M). counts_unit (granted y) unit) notes x, a, b);
     upto = All-push (λ y. IsUpTo (size y) total l (granted y)) notes x
         (All-weaker (λ y. IsUpTo (size y) total k (granted y)) (λ y. IsUpTo (size y) total l (granted y)) (λ y. upto_more (size y) total k l s.higher (granted y)) notes w.upto) s.upto;
     marked = λ mark now. All-push (λ y. IsMarked mark (refused y) × TellsMark mark (refused y)) notes x (w.marked mark (s.stays mark now)) (s.marked mark now);
@@ -121,7 +121,7 @@ module _ {M : Type 0} (granted : M → Option Span) (refused : M → Option Leas
   joined d e k l First Second Both xs ys parts v w = record {
     rightly = All-append is_note xs ys v.rightly w.rightly;
     once = λ unit. let a = v.once unit in let b = w.once unit in
-        omega (arith, sum_by-append (λ (y : M). has_unit (granted y) unit) xs ys, sum_by-append (λ (z : Entry). inside z.start (end_of z) unit) d e, a, b);
+        omega (arith, sum_by-append (λ (y : M). counts_unit (granted y) unit) xs ys, sum_by-append (λ (z : Entry). inside z.start (end_of z) unit) d e, a, b);
     upto = All-append (λ y. IsUpTo (size y) total (max k l) (granted y)) xs ys
         (All-weaker (λ y. IsUpTo (size y) total k (granted y)) (λ y. IsUpTo (size y) total (max k l) (granted y)) (λ y. upto_more (size y) total k (max k l) (omega arith) (granted y)) xs v.upto)
         (All-weaker (λ y. IsUpTo (size y) total l (granted y)) (λ y. IsUpTo (size y) total (max k l) (granted y)) (λ y. upto_more (size y) total l (max k l) (omega arith) (granted y)) ys w.upto);
@@ -176,25 +176,25 @@ is_more d e number start units is = subst (λ (x : List Entry). IsMore d x start
   reached = let g = greatest_append d (entry number start units ∷ []) in omega (arith, g);
 })
 
-no_units : (g : Option Span) (unit : ℕ) → g ≡ None → has_unit g unit ≡ 0
-no_units g unit is = ap (λ (x : Option Span). has_unit x unit) is
+no_units : (g : Option Span) (unit : ℕ) → g ≡ None → counts_unit g unit ≡ 0
+no_units g unit is = ap (λ (x : Option Span). counts_unit x unit) is
 
-module _ {M : Type 0} (fresh : Type 0) (size : M → ℕ) (total : ℕ) (notes : List M) (x : M) (p q : Pass) (within : p.total ≡ total) (goes : Goes p q)
-    (drawn : fresh → units_drawn (entries_of p) ≤ sum_by size notes) (kept : IsKept fresh size total notes p) where
+module _ {M : Type 0} (fresh : Type 0) (size : M → ℕ) (total : ℕ) (notes : List M) (x : M) (p q : Pass) (within : p.total ≡ total) (goes : PassGoesOn p q)
+    (drawn : fresh → units_drawn (entries_of p) ≤ sum_by size notes) (kept : IsRefusalKept fresh size total notes p) where
   abbrev Adds : Option Span → Option LeaseFault → Type 0
   Adds g o = IsStep fresh size total (entries_of p) (entries_of q) (known_of p) (known_of q) (AllowsMark p) (AllowsMark q) notes x g o
-      × IsKept fresh size total (notes ++ x ∷ []) q
+      × IsRefusalKept fresh size total (notes ++ x ∷ []) q
 
   -- refused units among these entries, by a session that takes so many itself
   abbrev Refuses : ℕ → LeaseFault → Type 0
-  Refuses = IsReached size total (entries_of q) (notes ++ x ∷ [])
+  Refuses = IsPoolReached size total (entries_of q) (notes ++ x ∷ [])
 
   abbrev Sized : Type 0
   Sized = (1 ≤ size x) × (size x ≤ MAX_UNITS)
 
   -- a refusal that was drawn before, where nothing was drawn since
   stays_refused : entries_of q ≡ entries_of p → (own : ℕ) → own ≤ size x → (fault : LeaseFault)
-      → IsReached size total (entries_of p) notes 0 fault → Refuses own fault
+      → IsPoolReached size total (entries_of p) notes 0 fault → Refuses own fault
   stays_refused same own few = let a = ap units_drawn same in let b = ap (greatest_end 0) same in let c = sum_by_push size notes x in
       reached_more size total 0 own (entries_of p) (entries_of q) notes (notes ++ x ∷ []) (omega (arith, b)) (omega (arith, a, c, few)) (contains_left notes (x ∷ []))
 
@@ -207,7 +207,7 @@ module _ {M : Type 0} (fresh : Type 0) (size : M → ℕ) (total : ℕ) (notes :
   same_step : (answer : Option (Result Span LeaseFault)) (g : Option Span) (o : Option LeaseFault) → g ≡ None → Causes answer o
       → entries_of q ≡ entries_of p → (q.kept ≡ p.kept)
       → ((first : ℕ) → answer ≡ Some (Err (lease.Broken first)) → ⊥) → (answer ≡ Some (Err lease.Device) → ⊥)
-      → (fresh → (fault : LeaseFault) → answer ≡ Some (Err fault) → IsReached size total (entries_of p) notes 0 fault) → Adds g o
+      → (fresh → (fault : LeaseFault) → answer ≡ Some (Err fault) → IsPoolReached size total (entries_of p) notes 0 fault) → Adds g o
   same_step answer g o none cause same also no_broken no_device refused = (
     record {
       once = λ unit. let a = ap (times_drawn unit) same in let b = no_units g unit none in omega (arith, a, b);
@@ -226,7 +226,7 @@ module _ {M : Type 0} (fresh : Type 0) (size : M → ℕ) (total : ℕ) (notes :
   burnt_step : (answer : Option (Result Span LeaseFault)) (g : Option Span) (o : Option LeaseFault) (start : ℕ) → g ≡ None → Causes answer o
       → IsMore (entries_of p) (entries_of q) start (size x)
       → (answer ≡ Some (Err lease.Device) → mark_of q ≢ 0) → ((first : ℕ) → answer ≡ Some (Err (lease.Broken first)) → (mark_of q ≢ 0) × (mark_of q ≡ first))
-      → (fresh → (fault : LeaseFault) → answer ≡ Some (Err fault) → Refuses (size x) fault) → IsKept fresh size total (notes ++ x ∷ []) q → Adds g o
+      → (fresh → (fault : LeaseFault) → answer ≡ Some (Err fault) → Refuses (size x) fault) → IsRefusalKept fresh size total (notes ++ x ∷ []) q → Adds g o
   burnt_step answer g o start none cause more device broken refused kept_now = (
     record {
       once = λ unit. let a = more.once unit in let b = no_units g unit none in omega (arith, a, b);
@@ -241,7 +241,7 @@ module _ {M : Type 0} (fresh : Type 0) (size : M → ℕ) (total : ℕ) (notes :
     kept_now,
   )
 
-  free_keeps : q.kept ≡ None → IsKept fresh size total (notes ++ x ∷ []) q
+  free_keeps : q.kept ≡ None → IsRefusalKept fresh size total (notes ++ x ∷ []) q
   free_keeps free f e is = absurd (none_some e (sym free ∙ is)) where
     none_some : (e : Refusal) → None ≡ Some e → ⊥
     none_some e z = cc
@@ -270,8 +270,8 @@ module _ {M : Type 0} (fresh : Type 0) (size : M → ℕ) (total : ℕ) (notes :
   exhausted_step at n all g o none cause sized now (Some k) was same =
       same_step (Some (Err (lease.Exhausted at n all))) g o none cause (ap (λ v. v.entries) same.1) (now ∙ ap Some same.0 ∙ sym was)
       (λ first z. (cc)) (λ z. (cc))
-      (λ f fault is. same_refusal (IsReached size total (entries_of p) notes 0) (lease.Exhausted at n all) fault is
-      (subst (λ (r : Refusal). IsReached size total (entries_of p) notes 0 (lease.Exhausted r.at r.count r.total)) (sym same.0) (kept f k was)))
+      (λ f fault is. same_refusal (IsPoolReached size total (entries_of p) notes 0) (lease.Exhausted at n all) fault is
+      (subst (λ (r : Refusal). IsPoolReached size total (entries_of p) notes 0 (lease.Exhausted r.at r.count r.total)) (sym same.0) (kept f k was)))
 
   -- what one session adds, however it was answered
   pub step_of : (answer : Option (Result Span LeaseFault)) (g : Option Span) (o : Option LeaseFault) → g ≡ granted_by answer → Causes answer o
@@ -285,7 +285,7 @@ module _ {M : Type 0} (fresh : Type 0) (size : M → ℕ) (total : ℕ) (notes :
       let some_units : 1 ≤ size x = sized.0 in
       let inside_total : s.start + size x ≤ p.total = lends.0.within in (
         record {
-          once = λ unit. let a = more.once unit in let b : has_unit g unit ≡ inside s.start s.end unit = ap (λ (r : Option Span). has_unit r unit) is in
+          once = λ unit. let a = more.once unit in let b : counts_unit g unit ≡ inside s.start s.end unit = ap (λ (r : Option Span). counts_unit r unit) is in
               let c : inside s.start s.end unit ≡ inside s.start (s.start + size x) unit = ap (λ (r : ℕ). inside s.start r unit) end_is in omega (arith, a, b, c);
           higher = goes.known;
           upto = subst (IsUpTo (size x) total (known_of q)) (sym is) (omega (arith, end_is, some_units), end_is, upto, omega (arith, end_is, inside_total, within));
@@ -324,7 +324,7 @@ pub next_worker : {M : Type 0} (is_note : M → Type 0) (granted : M → Option 
     (p q : Pass) (parts amount parts_now amount_now : ℕ) (notes kept_notes notes_now : List M) (x : M)
     → IsShiftOf is_note granted refused size total IsNote session_granted session_refused session_size session_total
     → IsWorker granted refused is_note fresh size table total p parts amount notes
-    → IsPassAt table total q → Goes p q → IsServed IsNote session_granted session_refused session_size x p q
+    → IsPassAt table total q → PassGoesOn p q → IsSessionServed IsNote session_granted session_refused session_size x p q
     → parts_now ≡ parts → amount_now ≡ amount + 1 → kept_notes ≡ notes → notes_now ≡ kept_notes ++ x ∷ []
     → IsWorker granted refused is_note fresh size table total q parts_now amount_now notes_now
 next_worker {M} is_note granted refused fresh size table total IsNote session_granted session_refused session_size session_total p q parts amount parts_now amount_now notes kept_notes notes_now x

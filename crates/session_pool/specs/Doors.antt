@@ -16,7 +16,7 @@ called (suc n) before = counted true (called n before)
 -- of the door: once for each note, and once more at most, where none was given. Where neither the door failed nor memory was missing,
 -- these are all that are wanted, or all that the door had; where they are all that are wanted, nothing failed, and it was asked no more.
 -- It failed exactly where its count of such calls rose.
-pub record Takes (sessions notes : ℕ) (door_failed memory_failed : Bool) (old new : DoorState) : Type 0 where
+pub record TakesLinks (sessions notes : ℕ) (door_failed memory_failed : Bool) (old new : DoorState) : Type 0 where
   pub most : notes ≤ sessions
   pub taken : new.left + notes ≡ old.left
   pub rest : new ≡ record old { left = new.left; offers = new.offers; nexts = new.nexts; next_faults = new.next_faults }

@@ -23,7 +23,7 @@ Lends p units (Some answer) q = Leased p units answer q
 
 -- One session that was served: its note is that of such an answer, and the answer is what became of the pass. So the pass has one entry
 -- more at most, of as many units as the note's size, and none where nobody was asked.
-pub record IsServed {M : Type 0} (IsNote : Option (Result Span LeaseFault) → M → Type 0) (granted : M → Option Span)
+pub record IsSessionServed {M : Type 0} (IsNote : Option (Result Span LeaseFault) → M → Type 0) (granted : M → Option Span)
     (refused : M → Option LeaseFault) (size : M → ℕ) (note : M) (p q : Pass) : Type 0 where
   pub answer : Option (Result Span LeaseFault)
   pub is_note : IsNote answer note
@@ -37,10 +37,10 @@ abbrev pub IsNoteOf : {M : Type 0} → (Option (Result Span LeaseFault) → M �
 IsNoteOf IsNote note = (answer : Option (Result Span LeaseFault)) × IsNote answer note
 
 -- two granted spans have no unit in common
-abbrev pub AreApart : Option Span → Option Span → Type 0
-AreApart None b = Unit {0}
-AreApart (Some s) None = Unit {0}
-AreApart (Some s) (Some t) = (s.end ≤ t.start) ⊎ (t.end ≤ s.start)
+abbrev pub AreGrantsApart : Option Span → Option Span → Type 0
+AreGrantsApart None b = Unit {0}
+AreGrantsApart (Some s) None = Unit {0}
+AreGrantsApart (Some s) (Some t) = (s.end ≤ t.start) ⊎ (t.end ≤ s.start)
 
 -- a granted span has so many units, and lies between these
 abbrev pub IsBetween : ℕ → ℕ → ℕ → Option Span → Type 0

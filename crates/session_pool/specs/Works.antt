@@ -25,13 +25,13 @@ pub record IsShiftOf {M : Type 0} (is_note : M → Type 0) (granted : M → Opti
   pub size_is : (note : M) → size note ≡ session_size note
 
 -- 1 where a granted span has the unit, and else 0
-abbrev pub has_unit : Option Span → ℕ → ℕ
-has_unit None unit = 0
-has_unit (Some s) unit = inside s.start s.end unit
+abbrev pub counts_unit : Option Span → ℕ → ℕ
+counts_unit None unit = 0
+counts_unit (Some s) unit = inside s.start s.end unit
 
 -- how often a unit was granted
 abbrev pub times_granted : {M : Type 0} → (M → Option Span) → ℕ → List M → ℕ
-times_granted granted unit notes = sum_by (λ m. has_unit (granted m) unit) notes
+times_granted granted unit notes = sum_by (λ m. counts_unit (granted m) unit) notes
 
 -- a granted span is not empty, has so many units, and ends at or below a known ceiling and within the total
 abbrev pub IsUpTo : ℕ → ℕ → ℕ → Option Span → Type 0
@@ -47,7 +47,7 @@ IsReachedBy units own total reach drawn taken Device = Unit {0}
 IsReachedBy units own total reach drawn taken (Broken first) = Unit {0}
 
 -- the same of entries and of notes, one of which takes so many units
-pub record IsReached {M : Type 0} (size : M → ℕ) (total : ℕ) (entries : List Entry) (notes : List M) (own : ℕ)
+pub record IsPoolReached {M : Type 0} (size : M → ℕ) (total : ℕ) (entries : List Entry) (notes : List M) (own : ℕ)
     (fault : LeaseFault) : Type 0 where
   pub drawer : M
   pub among : Contains notes drawer
@@ -70,12 +70,12 @@ pub record IsWork {M : Type 0} (granted : M → Option Span) (refused : M → Op
   pub upto : All (λ m. IsUpTo (size m) total known (granted m)) notes
   pub marked : (mark : ℕ) → Allows mark → All (λ m. IsMarked mark (refused m) × TellsMark mark (refused m)) notes
   pub drawn : fresh → units_drawn entries ≤ sum_by size notes
-  pub reached : fresh → All (λ m. IfSome (refused m) (IsReached size total entries notes (size m))) notes
+  pub reached : fresh → All (λ m. IfSome (refused m) (IsPoolReached size total entries notes (size m))) notes
 
 -- a refusal that a pass keeps was drawn
-abbrev pub IsKept : {M : Type 0} → Type 0 → (M → ℕ) → ℕ → List M → Pass → Type 0
-IsKept fresh size total notes p = fresh → (e : Refusal) → p.kept ≡ Some e
-    → IsReached size total (entries_of p) notes 0 (Exhausted e.at e.count e.total)
+abbrev pub IsRefusalKept : {M : Type 0} → Type 0 → (M → ℕ) → ℕ → List M → Pass → Type 0
+IsRefusalKept fresh size total notes p = fresh → (e : Refusal) → p.kept ≡ Some e
+    → IsPoolReached size total (entries_of p) notes 0 (Exhausted e.at e.count e.total)
 
 -- what a worker keeps
 pub record IsWorker {M : Type 0} (granted : M → Option Span) (refused : M → Option LeaseFault) (is_note : M → Type 0)
@@ -84,7 +84,7 @@ pub record IsWorker {M : Type 0} (granted : M → Option Span) (refused : M → 
   pub part : parts ≡ 1
   pub counted : amount ≡ length notes
   pub work : IsWork granted refused is_note fresh size total (entries_of pass) (known_of pass) (AllowsMark pass) notes
-  pub kept : IsKept fresh size total notes pass
+  pub kept : IsRefusalKept fresh size total notes pass
   pub faults : faults_met refused notes ≤ met_of pass
 
 -- the greatest ceiling that one of these passes knows

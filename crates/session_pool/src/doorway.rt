@@ -1,7 +1,7 @@
 // What stands behind the lock.
 ghost use Rattle.std.specs.Prelude.{◌≡◌, ◌+◌, ◌<◌, ◌≤◌, true, vec_len, vec_capacity, MatchOption, IfSome};
 ghost use Rattle.zk_port.specs.Doors.{IsFreshLink};
-ghost use Rattle.session_pool.specs.Doors.{Takes};
+ghost use Rattle.session_pool.specs.Doors.{TakesLinks};
 
 use crate::served::Served;
 use crate::shift::Run;
@@ -128,7 +128,7 @@ impl<D: Door, W: Run> Doorway<D, W> {
         disk: B,
     ) -> Served<M, D, B>
         requires { all.parts ≡ W.parts }
-        ensures taken { Takes W.sessions all.amount result.door_failed result.memory_failed
+        ensures taken { TakesLinks W.sessions all.amount result.door_failed result.memory_failed
             W.first (D.state result.door) }
         ensures starved { self.starved ≡ true → result.memory_failed ≡ true }
         ensures notes { result.notes ≡ notes }

@@ -1,8 +1,8 @@
 // A pass that is lent to one session.
 ghost use Rattle.std.specs.Prelude.{◌≡◌, None};
 ghost use Rattle.zk_port.specs.Doors.{IsFreshLink};
-ghost use Rattle.lease_store.specs.Leases.{Goes, IsPassAt};
-ghost use Rattle.session_pool.specs.Notes.{IsServed};
+ghost use Rattle.lease_store.specs.Leases.{PassGoesOn, IsPassAt};
+ghost use Rattle.session_pool.specs.Notes.{IsSessionServed};
 
 use crate::session::Session;
 use lease_store::{Grantor, LeaseFault, LeaseName, LeaseStore};
@@ -24,7 +24,7 @@ pub(crate) struct Lender<'a, 'p, B: Disk, N: LeaseName, R: Wait> {
 
 impl<'a, 'p, B: Disk, N: LeaseName, R: Wait> Grantor for Lender<'a, 'p, B, N, R> {
     ghost use Rattle.std.specs.Prelude.{◌≡◌, ◌≤◌};
-    ghost use Rattle.lease_store.specs.Leases.{IsPassAt, Leased, Goes};
+    ghost use Rattle.lease_store.specs.Leases.{IsPassAt, Leased, PassGoesOn};
     ghost use Rattle.zk_model.specs.declared.limits.TheConstants.{MAX_UNITS};
 
     ghost answer = { λ l. l.answer };
@@ -36,7 +36,7 @@ impl<'a, 'p, B: Disk, N: LeaseName, R: Wait> Grantor for Lender<'a, 'p, B, N, R>
     ghost may = { λ l count. IsPassAt N.table N.total l.pass.now × (1 ≤ count) × (count ≤ MAX_UNITS) };
 
     ghost moves = { λ l count answer m. (m.pass.ghost_name ≡ l.pass.ghost_name)
-        × IsPassAt N.table N.total m.pass.now × Goes l.pass.now m.pass.now
+        × IsPassAt N.table N.total m.pass.now × PassGoesOn l.pass.now m.pass.now
         × Leased l.pass.now count answer m.pass.now };
 
     fn grant(&mut self, count: u32) -> Result<Span, LeaseFault> {
@@ -66,8 +66,8 @@ where
     requires total { N.total ≡ S.total session.now }
     requires fresh { IsFreshLink (L.state link) }
     ensures own { IsPassAt N.table N.total pass.new }
-    ensures goes { Goes pass.old pass.new }
-    ensures served { IsServed (S.is_note session.now) S.granted S.refused (S.size session.now)
+    ensures goes { PassGoesOn pass.old pass.new }
+    ensures served { IsSessionServed (S.is_note session.now) S.granted S.refused (S.size session.now)
         result pass.old pass.new }
 {
     let mut lender = Lender {

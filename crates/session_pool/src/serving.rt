@@ -4,8 +4,8 @@ ghost use Rattle.std.specs.Thread.{IsSync};
 ghost use Rattle.lease_store.specs.Ceilings.{HasCeilingHeader};
 ghost use Rattle.lease_store.specs.Desks.{Begins};
 ghost use Rattle.lease_store.specs.Leases.{IsPassAt};
-ghost use Rattle.session_pool.specs.Doors.{Takes};
-ghost use Rattle.session_pool.specs.Notes.{AreApart, IsLeft, IsNoteOf, IsRefusedAmong, IsUnused};
+ghost use Rattle.session_pool.specs.Doors.{TakesLinks};
+ghost use Rattle.session_pool.specs.Notes.{AreGrantsApart, IsLeft, IsNoteOf, IsRefusedAmong, IsUnused};
 ghost use Rattle.session_pool.specs.Works.{AreBack, IsShiftOf};
 
 use crate::doorway::Doorway;
@@ -210,9 +210,9 @@ where
     requires sessions { sessions ≡ W.sessions }
     requires fresh { W.fresh → All IsUnused passes.items }
     ensures notes { All W.is_note result.notes.items }
-    ensures taken { Takes W.sessions (length result.notes.items) result.door_failed result.memory_failed
+    ensures taken { TakesLinks W.sessions (length result.notes.items) result.door_failed result.memory_failed
         W.first (D.state result.door) }
-    ensures apart { AllPairs (λ m n. AreApart (W.granted m) (W.granted n)) result.notes.items }
+    ensures apart { AllPairs (λ m n. AreGrantsApart (W.granted m) (W.granted n)) result.notes.items }
     ensures left { IsLeft W.fresh N.start (B.state result.disk) N.id parts.base N.total N.passes
         W.size W.granted W.refused result.notes.items }
     ensures refused { W.fresh → All (λ note. IfSome (W.refused note)
@@ -259,9 +259,9 @@ where
         → HasCeilingHeader (S.id session.now) parts.total bytes }
     requires begins { Begins (B.state parts.disk) (B.state parts.disk) }
     ensures notes { All (IsNoteOf (S.is_note session.now)) result.notes.items }
-    ensures taken { Takes sessions (length result.notes.items) result.door_failed result.memory_failed
+    ensures taken { TakesLinks sessions (length result.notes.items) result.door_failed result.memory_failed
         (D.state door) (D.state result.door) }
-    ensures apart { AllPairs (λ m n. AreApart (S.granted m) (S.granted n)) result.notes.items }
+    ensures apart { AllPairs (λ m n. AreGrantsApart (S.granted m) (S.granted n)) result.notes.items }
     ensures left { IsLeft (All IsUnused passes.items) (B.state parts.disk) (B.state result.disk)
         (S.id session.now) parts.base parts.total parts.passes (S.size session.now) S.granted S.refused
         result.notes.items }

@@ -1,5 +1,5 @@
 -- How a session ends for a prover, wherever it stops.
-use Rattle.std.proofs.Common.{◌≡◌, inl, inr, ℕ, ◌+◌, ◌≤◌, List, [], ◌++◌, length, Some, None, Err, refl, ap, sym, ◌∙◌, append-nil, arith, slice_index_or, ◌⊎◌, zero, suc, ◌∷◌, flat_map, take, drop, subst, append_assoc, true, length-append, Option, Ok}
+use Rattle.std.proofs.Common.{◌≡◌, inl, inr, ℕ, ◌+◌, ◌≤◌, List, [], ◌++◌, length, Some, None, Err, refl, ap, sym, ◌∙◌, append-nil, arith, slice_index_or, ◌⊎◌, zero, suc, ◌∷◌, flat_map, take, drop, subst, append_assoc, length-append, Ok}
 use Rattle.frame_laws.proofs.SentBytes.{sent_by-append, own_bytes}
 use Rattle.zk_model.specs.Transcript.{Grant, IsGrant, BeginsWith, bytes_from, sent_by, grant_frame, refuse_frame, challenge_frame, turn_bytes, reply_frame, corrections_frame, sums_frame, openings_frame, Round, spelling, verdict_frame}
 use Rattle.zk_model.specs.Frames.{Frame, grant, refuse, Allows, IsFirstBad, frame_spelling, corrections, verdict, FitsVerdict, FitsGrant, FitsRefusal}
@@ -7,29 +7,29 @@ use Rattle.zk_model.specs.declared.Expect.{Expect}
 use Rattle.zk_model.specs.declared.Side.{Side}
 use Rattle.zk_model.specs.declared.Side.TheVariants.{Verifier, Prover}
 use Rattle.claim_store.specs.declared.ClaimFault.{ClaimFault}
-use Rattle.frame_link.specs.Lines.{IsUnfinished, LineState, LinkSnapshot, IsSendRefused, counted_times, snapshot_of, CountsFault, IsCutShort}
+use Rattle.frame_link.specs.Lines.{IsUnfinished, LinkSnapshot, IsCutShort}
 use Rattle.proof_frames.proofs.Lengths.{whole_length}
 use Rattle.proof_frames.proofs.Unique.{one_frame}
-use Rattle.frame_link.proofs.LineLemmas.{none_is_some, front_goes_on, appended_none, appended_more, one_send_more, longest, within_longest}
+use Rattle.frame_link.proofs.LineLemmas.{none_is_some, front_goes_on, longest, within_longest}
 use Rattle.session_core.specs.Jobs.{ProverJob, Suits}
 use Rattle.session_prover.specs.declared.note.ProverOutcome.{ProverOutcome}
 use Rattle.session_prover.specs.Outcomes.{claim_outcome, line_outcome, session_outcome, verdict_outcome}
-use Rattle.session_prover.specs.Stages.{TriesSend, Claim, ClaimedFor, greeted_log, granted_log, IsLogAt, IsLogTaken, replied_log, fixed_log, answers_in, Course, GoesWell, IsLineTaken, all_asks, sums_for, openings_for, IsOpenedLog, opened_log, RefusedFor, greeting, IsSound, SendStops, IsBehindGrant, Comes, IsRejection, IsGrantTaken, IsNoGrant}
-use Rattle.session_prover.specs.Notes.{AnswersGrantPlace, IsClaimRefused, IsRelated, task_of, IsGrantRead, IsAskedRight, SendsOnceClaimed, IsAnswerDue, IsOutcome, CountsOutcome, SendsHonestly, SendsEach, AnswersVerdict, IsEnded, ComesBehind, IsLogged, ReadsVerdict}
-use Rattle.session_prover.proofs.Heard.{same_bytes_grant, greeted_heard, granted_heard, frame_is_some, granted_sent, turns_at, next_frame, IsUnheard, unread, Hears, read_so, answers_heard, same_stage, greeted_sent, not_heard, has_answered, from_ended, opened_sent, opened_heard, made, made_is, made_honest, finishes, all_sent, honest_bytes, one_grant}
+use Rattle.session_prover.specs.Stages.{Claim, ClaimedFor, greeted_log, granted_log, IsLogAt, IsLogTaken, replied_log, fixed_log, all_asks, sums_for, openings_for, IsOpenedLog, opened_log, RefusedFor, greeting, IsSound, IsBehindGrant, IsRejection, IsNoGrant, AnswersEach}
+use Rattle.session_prover.specs.Notes.{AnswersGrantPlace, IsClaimRefused, IsRelated, task_of, IsGrantRead, IsAskedRight, SendsOnceClaimed, IsAnswerDue, IsOutcome, CountsOutcome, SendsHonestly, SendsEach, AnswersVerdict, IsLogged, ReadsVerdict, HasEnded}
+use Rattle.session_prover.proofs.Heard.{same_bytes_grant, greeted_heard, granted_heard, granted_sent, turns_at, next_frame, IsUnheard, unread, Hears, read_so, same_stage, greeted_sent, not_heard, has_answered, from_ended, opened_sent, opened_heard, made, made_is, made_honest, finishes, all_sent, honest_bytes, one_grant}
 use Rattle.session_prover.proofs.Answering.{suits_is, related_greeting, related_asks, related_replied, related_fixed, related_at, read_is, IsUnder, IsGrantAnswer, grant_answer, spelled_asks, answer_leads, answer_exists, answer_is_honest, read_under, related_part, next_of}
 use Rattle.std.proofs.lemmas.Grind.{flat_map-append}
-use Rattle.std.proofs.lemmas.List.{take-append-drop, take-map}
+use Rattle.std.proofs.lemmas.List.{take-append-drop}
 use Rattle.zk_model.specs.Mac.{Pair}
 use Rattle.zk_model.specs.Files.{span_pairs}
 use Rattle.zk_model.specs.HonestProver.{round_asks, IsWitness, AreHonestBytes, ProverTask}
 use Rattle.zk_model.specs.View.{span_of}
 use Rattle.session_core.specs.Cores.{ProverStage, awaits_grant, awaits_replies, awaits_challenge, awaits_verdict, Commits, AnswersGrant, ProverAnswers, ProverRefuses, prover_expects, has_ended}
-use Rattle.zk_port.specs.Logs.{appended, put_before}
+use Rattle.zk_port.specs.Logs.{appended}
 use Rattle.frame_link.specs.declared.fault.LineFault.{LineFault}
-use Rattle.session_driver.specs.Runs.{IsUnsent, Moves, HasPassed, IsMissing, Lacks, IsFresh}
+use Rattle.session_driver.specs.Runs.{Moves}
 use Rattle.zk_model.specs.Peers.{IsFromHonestProver, HasEndedHonestly}
-use Rattle.zk_port.specs.Counts.{Rose, counted}
+use Rattle.zk_port.specs.Counts.{}
 use Rattle.session_core.specs.Rounds.{round_turns}
 use Rattle.session_core.specs.declared.fault.ProverFault.{ProverFault}
 use Rattle.session_prover.specs.declared.note.ProverOutcome.TheVariants.{NoMemory}
@@ -38,7 +38,7 @@ use Rattle.session_laws.proofs.Turns.{answered}
 use Rattle.frame_laws.proofs.Hellos.{wanted_fits}
 use Rattle.zk_model.specs.Check.{WirePairs}
 use Rattle.std.proofs.lemmas.Bool.{cases_lt}
-use Rattle.session_driver.proofs.Going.{none_passed, came_more, came_same, bytes_more}
+use Rattle.session_driver.proofs.Going.{came_more, came_same, bytes_more, frame_is_some}
 use Rattle.zk_model.specs.declared.Expect.TheVariants as expect
 use Rattle.session_prover.specs.declared.note.ProverOutcome.TheVariants as outcome
 use Rattle.frame_link.specs.declared.fault.LineFault.TheVariants as fault
@@ -46,6 +46,7 @@ use Rattle.frame_link.specs.Lines as lines
 use Rattle.session_core.specs.declared.fault.ProverFault.TheVariants as session
 use Rattle.session_prover.specs.Notes as notes
 use Rattle.claim_store.specs.declared.ClaimFault.TheVariants as refusal
+use Rattle.session_driver.specs.Leaving.{CountsCalls, GoesWell, IsSent, IsLostBy, IsSendFault, IsShortBy, KeepsBack, Misses, StopsShort, ComesAt}
 
 -- What was read in the grant's place, and what the claimant answered, is the outcome.
 
@@ -198,43 +199,6 @@ related_answer job claim (awaits_challenge given pairs wires) frame answer now l
     (ap (λ l. l ++ v) at ∙ append_assoc (fixed_log job given rounds d) (bytes_from Verifier (challenge_frame element)) v)
 related_answer job claim other frame answer now log n sound taken answers = absurd taken
 
--- ---- answers that are not sent
-
--- want of memory before any send
-pub stops_before : (bytes : List ℕ) (line : LineState) → SendStops bytes fault.NoMemory line line
-stops_before bytes line = record {
-  part = [];
-  begun = (bytes, refl);
-  logged = refl;
-  told = appended_none line.told;
-  sends = inl (refl, refl, refl, refl);
-  others = record { side = refl; reading = refl; to_come = refl; ended = refl; is_open = refl; receives = refl };
-  cause = tt;
-  count = record { later = omega arith; unfailed = λ _. refl };
-}
-
--- the send was refused
-stops_refused : (bytes : List ℕ) (f : LineFault) (old new : LineState) → IsSendRefused bytes f old new → SendStops bytes f old new
-stops_refused bytes f old new refused = record {
-  part = take refused.told.count bytes;
-  begun = (drop refused.told.count bytes, sym (take-append-drop refused.told.count bytes));
-  logged = refused.logged;
-  told = refused.told.part ∙ ap (λ l. appended l old.told) (take-map (λ (byte : ℕ). (old.side, byte)) refused.told.count bytes);
-  sends = inr (refused.sends, refused.refused_sends);
-  others = refused.others;
-  cause = refused.cause;
-  count = refused.count;
-}
-
-pub stops_sending : (frames : List Frame) (f : LineFault) (old new : LineState) → IsUnsent None frames f old new
-    → SendStops (flat_map frame_spelling frames) f old new
-stops_sending frames f old new unsent = elim unsent.unsent [
-  | inl none ↦
-      subst (λ (q : LineFault × LineState). SendStops (flat_map frame_spelling frames) q.0 old q.1) (λ i. (sym none.0 i, sym none.1 i))
-      (stops_before (flat_map frame_spelling frames) old)
-  | inr refused ↦ stops_refused (flat_map frame_spelling frames) f old new refused
-]
-
 -- ---- where sending stops
 
 -- What is to be sent after a log: what an honest prover sends next; each beginning of it may be sent.
@@ -246,9 +210,9 @@ pub record IsDue (job : ProverJob) (claim : Claim) (log : List (Side × ℕ)) (b
   pub answers : (outcome : ProverOutcome) → AnswersGrantPlace job claim outcome log
 
 -- counts of a line's fault
-counts_line : (f : LineFault) (first new : LineState) → CountsFault f first new → CountsOutcome (line_outcome f) first.faults new.faults
-counts_line fault.Link first new count = record { later = count.later; unfailed = λ no. absurd no }
-counts_line other first new count = record { later = count.later; unfailed = λ no. count.unfailed tt }
+counts_line : (f : LineFault) (first now : LinkSnapshot) → CountsCalls f first now → CountsOutcome (line_outcome f) first.faults now.faults
+counts_line fault.Link first now calls = record { later = calls.later; unfailed = λ no. absurd (no refl) }
+counts_line other first now calls = record { later = calls.later; unfailed = λ no. calls.unfailed tt }
 
 -- how many frames an answer has at the least whose send fails so
 abbrev pub least_for : LineFault → ℕ
@@ -259,84 +223,93 @@ pub some_for : (f : LineFault) (count : ℕ) → 1 ≤ count → least_for f ≤
 some_for fault.Link count some = some
 some_for other count some = omega arith
 
-pub stops_sending_at : (job : ProverJob) (course : Course) (bytes : List ℕ) (f : LineFault) (old new : LineState)
-    → GoesWell course.first old → IsDue job course.claim old.log bytes → IsAnswerDue job course.claim (least_for f) old.log
-    → SendStops bytes f old new → IsRelated job old.log → IsUnheard job old.log
-    → IsEnded job course (line_outcome f) new
-stops_sending_at job course bytes f old new well due owed stops related unheard = record {
-  outcome_is = caused f stops.cause owed stops.sends;
-  asked = subst (λ l. IsAskedRight job course.claim l) (append-nil old.log ∙ sym stops.logged) (due.asked []);
-  honest = (at_fault f stops.cause).0;
-  claimed = subst (λ l. SendsOnceClaimed job course.claim l) (append-nil old.log ∙ sym stops.logged) (due.claimed [] bytes refl);
-  related = subst (IsRelated job) (sym stops.logged) related;
-  answers = subst (AnswersGrantPlace job course.claim (line_outcome f)) (sym stops.logged) (due.answers (line_outcome f));
-  verdict = subst (AnswersVerdict job (line_outcome f)) (sym stops.logged) (unread job (line_outcome f) old.log unheard);
-  sends = sent_each stops.sends;
-  logged = record {
-    part = stops.part;
-    told = stops.told ∙ (λ i. appended (bytes_from (well.side i) stops.part) (well.told i))
-        ∙ appended_more old.log (bytes_from Prover stops.part) course.first.told ∙ ap (λ l. appended (l ++ bytes_from Prover stops.part) course.first.told) (sym stops.logged);
-    none = (at_fault f stops.cause).2;
-    refused = refused_each stops.sends;
-    honest = λ inputs wires witness. subst (λ l. IsFromHonestProver (task_of job inputs) (l ++ bytes_from Prover stops.part)) (sym stops.logged)
-        (from_due inputs wires witness stops.part stops.begun.0 stops.begun.1);
-    claimed = subst (λ l. SendsOnceClaimed job course.claim (l ++ bytes_from Prover stops.part)) (sym stops.logged) (due.claimed stops.part stops.begun.0 stops.begun.1);
-  };
-  came = well.came ∙ (λ i. put_before (sym heard i) (sym stops.others.to_come i));
-  receives = omega (arith, stops.others.receives, well.receives, ap length heard);
-  count = counts_line f course.first new
-      (record { later = omega (arith, well.faults, stops.count.later); unfailed = λ no. stops.count.unfailed no ∙ well.faults });
-}
-  where
-    heard : sent_by Verifier new.log ≡ sent_by Verifier old.log
-    heard = ap (sent_by Verifier) stops.logged
+-- what was due after the log was not sent
+abbrev pub KeepsDue : List ℕ → LineFault → LinkSnapshot → LinkSnapshot → Type 0
+KeepsDue bytes f first now = KeepsBack None Prover now.log bytes f first now
 
-    from_due : (inputs wires : List ℕ) → IsWitness job.statement inputs wires job.given → (more rest : List ℕ) → bytes ≡ more ++ rest
-        → IsFromHonestProver (task_of job inputs) (old.log ++ bytes_from Prover more)
-    from_due inputs wires witness more rest is = (
-      sent_by Prover old.log ++ bytes,
-      subst (λ l. AreHonestBytes (task_of job inputs) l (sent_by Prover old.log ++ bytes)) (sym (came_same Prover old.log more)) (due.honest inputs wires witness),
-      (rest, ap (λ l. sent_by Prover old.log ++ l) is ∙ sym (append_assoc (sent_by Prover old.log) more rest) ∙ ap (λ l. l ++ rest) (sym (came_more Verifier old.log more))),
-    )
+-- behind this log
+pub kept_log : (log : List (Side × ℕ)) (bytes : List ℕ) (f : LineFault) (first now : LinkSnapshot) → KeepsBack None Prover log bytes f first now → now.log ≡ log
+kept_log log bytes f first now (inl lacks) = lacks.1.logged
+kept_log log bytes f first now (inr lost) = lost.logged
 
-    from_log : (inputs wires : List ℕ) → IsWitness job.statement inputs wires job.given → IsFromHonestProver (task_of job inputs) new.log
-    from_log inputs wires witness = subst (λ l. IsFromHonestProver (task_of job inputs) l) (append-nil old.log ∙ sym stops.logged)
-        (from_due inputs wires witness [] bytes refl)
+pub keeps_due : (log : List (Side × ℕ)) (bytes : List ℕ) (f : LineFault) (first now : LinkSnapshot) → KeepsBack None Prover log bytes f first now
+    → KeepsDue bytes f first now
+keeps_due log bytes f first now kept = subst (λ l. KeepsBack None Prover l bytes f first now) (sym (kept_log log bytes f first now kept)) kept
 
-    at_fault : (f : LineFault) → lines.IsSendCause old new f
-        → SendsHonestly job new.log (line_outcome f) × notes.IsFault (line_outcome f) × (notes.IsNoFault (line_outcome f) → stops.part ≡ [])
-    at_fault fault.Link cause = (from_log, tt, λ fine. absurd fine)
-    at_fault fault.NoMemory cause = (from_log, tt, λ fine. absurd fine)
-    at_fault other cause = absurd cause
+module _ (job : ProverJob) (claim : Claim) (first : LinkSnapshot) (bytes : List ℕ) (f : LineFault) (now : LinkSnapshot) (due : IsDue job claim now.log bytes) where
+  from_due : (inputs wires : List ℕ) → IsWitness job.statement inputs wires job.given → (more rest : List ℕ) → bytes ≡ more ++ rest
+      → IsFromHonestProver (task_of job inputs) (now.log ++ bytes_from Prover more)
+  from_due inputs wires witness more rest is = (
+    sent_by Prover now.log ++ bytes,
+    subst (λ l. AreHonestBytes (task_of job inputs) l (sent_by Prover now.log ++ bytes)) (sym (came_same Prover now.log more)) (due.honest inputs wires witness),
+    (rest, ap (λ l. sent_by Prover now.log ++ l) is ∙ sym (append_assoc (sent_by Prover now.log) more rest) ∙ ap (λ l. l ++ rest) (sym (came_more Verifier now.log more))),
+  )
 
-    one_more : new.sends ≡ counted true old.sends → new.sends ≡ counted_times (answers_in new.log + 1) course.first.sends
-    one_more one = one_send_more (answers_in old.log) course.first.sends new.sends (one ∙ ap (counted true) well.sends)
-        ∙ ap (λ (l : List (Side × ℕ)). counted_times (answers_in l + 1) course.first.sends) (sym stops.logged)
+  from_log : (inputs wires : List ℕ) → IsWitness job.statement inputs wires job.given → IsFromHonestProver (task_of job inputs) now.log
+  from_log inputs wires witness = subst (λ l. IsFromHonestProver (task_of job inputs) l) (append-nil now.log) (from_due inputs wires witness [] bytes refl)
 
-    refused_each : TriesSend stops.part f old new → notes.RefusesSends (line_outcome f) stops.part (snapshot_of course.first) (snapshot_of new)
-    refused_each (inl none) = inl (none.1, none.3 ∙ well.refused_sends)
-    refused_each (inr one) = inr ((at_fault f stops.cause).1, one.1 ∙ ap (counted true) well.refused_sends)
+  at_fault : (g : LineFault) → IsSendFault g → SendsHonestly job now.log (line_outcome g) × notes.IsFault (line_outcome g)
+  at_fault fault.Link is = (from_log, tt)
+  at_fault fault.NoMemory is = (from_log, tt)
+  at_fault other is = absurd is
 
-    sent_each : TriesSend stops.part f old new → SendsEach (line_outcome f) new.log (snapshot_of course.first) (snapshot_of new)
-    sent_each (inl none) = inl (
-      none.2 ∙ well.sends ∙ ap (λ (l : List (Side × ℕ)). counted_times (answers_in l) course.first.sends) (sym stops.logged),
-      none.3 ∙ well.refused_sends,
-    )
-    sent_each (inr one) = inr ((at_fault f stops.cause).1, one_more one.0, one.1 ∙ ap (counted true) well.refused_sends)
+  fault_of : KeepsDue bytes f first now → IsSendFault f
+  fault_of (inl lacks) = subst IsSendFault (sym lacks.0) tt
+  fault_of (inr lost) = lost.fault_is
 
-    no_link : fault.Link ≡ fault.NoMemory → ⊥
-    no_link same = subst lines.IsNoLink (sym same) tt
+  lost_so : (g : LineFault) → IsAnswerDue job claim (least_for g) now.log → IsLostBy g Prover now.log bytes first now
+      → IsOutcome job claim now.log first now (line_outcome g)
+  lost_so fault.Link owed lost = (lost.calls.failed refl, inr (owed, lost.sends, lost.refused_sends))
+  lost_so fault.NoMemory owed lost = inr (inl owed)
+  lost_so other owed lost = absurd lost.fault_is
 
-    owes : (least : ℕ) → IsAnswerDue job course.claim least old.log → IsAnswerDue job course.claim least new.log
-    owes least owed = subst (IsAnswerDue job course.claim least) (sym stops.logged) owed
+  caused : IsAnswerDue job claim (least_for f) now.log → KeepsDue bytes f first now → IsOutcome job claim now.log first now (line_outcome f)
+  caused owed (inl lacks) = subst (λ g. IsOutcome job claim now.log first now (line_outcome g)) (sym lacks.0)
+      (inr (inl (subst (λ g. IsAnswerDue job claim (least_for g) now.log) lacks.0 owed)))
+  caused owed (inr lost) = lost_so f owed lost
 
-    caused : (f : LineFault) → lines.IsSendCause old new f → IsAnswerDue job course.claim (least_for f) old.log
-        → TriesSend stops.part f old new
-        → IsOutcome job course.claim new.log (snapshot_of course.first) (snapshot_of new) (line_outcome f)
-    caused fault.Link cause owed (inl none) = absurd (no_link none.0)
-    caused fault.Link cause owed (inr one) = (subst (λ n. Rose n new.faults) well.faults cause, inr (owes 1 owed, one_more one.0, one.1 ∙ ap (counted true) well.refused_sends))
-    caused fault.NoMemory cause owed sends = inr (inl (owes 0 owed))
-    caused other cause owed sends = absurd cause
+  sent_each : KeepsDue bytes f first now → SendsEach (line_outcome f) now.log first now
+  sent_each (inl lacks) = inl (lacks.1.sends, lacks.1.refused_sends)
+  sent_each (inr lost) = inr ((at_fault f lost.fault_is).1, lost.sends, lost.refused_sends)
+
+  counts_calls : KeepsDue bytes f first now → CountsOutcome (line_outcome f) first.faults now.faults
+  counts_calls (inl lacks) = record { later = omega (arith, lacks.1.faults); unfailed = λ _. lacks.1.faults }
+  counts_calls (inr lost) = counts_line f first now lost.calls
+
+  told : KeepsDue bytes f first now → IsLogged job claim (line_outcome f) now.log first now
+  told (inl lacks) = record {
+    part = [];
+    told = lacks.1.told ∙ ap (λ l. appended l first.told) (sym (append-nil now.log));
+    refused = inl (refl, lacks.1.refused_sends);
+    honest = λ inputs wires witness. from_due inputs wires witness [] bytes refl;
+    claimed = due.claimed [] bytes refl;
+  }
+  told (inr lost) =
+      let part = take lost.count bytes in
+      let rest = drop lost.count bytes in
+      let whole = sym (take-append-drop lost.count bytes) in
+      record {
+        part = part;
+        told = lost.told;
+        refused = inr ((at_fault f lost.fault_is).1, lost.refused_sends);
+        honest = λ inputs wires witness. from_due inputs wires witness part rest whole;
+        claimed = due.claimed part rest whole;
+      }
+
+  pub stops_sending : IsAnswerDue job claim (least_for f) now.log → KeepsDue bytes f first now → IsRelated job now.log → IsUnheard job now.log
+      → HasEnded job claim first (line_outcome f) now
+  stops_sending owed kept related unheard = record {
+    outcome_is = caused owed kept;
+    asked = subst (λ l. IsAskedRight job claim l) (append-nil now.log) (due.asked []);
+    honest = (at_fault f (fault_of kept)).0;
+    claimed = subst (λ l. SendsOnceClaimed job claim l) (append-nil now.log) (due.claimed [] bytes refl);
+    related = related;
+    answers = due.answers (line_outcome f);
+    verdict = unread job (line_outcome f) now.log unheard;
+    sends = sent_each kept;
+    logged = told kept;
+    count = counts_calls kept;
+  }
 
 -- ---- answers over a line
 
@@ -397,30 +370,31 @@ taken_unheard job claim stage frame log sound taken =
     }
 
 -- an answer is not sent
-pub stops_answering : (job : ProverJob) (course : Course) (stage : ProverStage) (frame : Frame) (answer : List Frame) (now : ProverStage) (f : LineFault) (old new : LineState)
-    → IsSound job → IsLineTaken job course stage frame old → ProverAnswers job stage frame answer now → least_for f ≤ length answer
-    → SendStops (flat_map frame_spelling answer) f old new → IsEnded job course (line_outcome f) new
-stops_answering job course stage frame answer now f old new sound taken answers some stop =
-    stops_sending_at job course (flat_map frame_spelling answer) f old new taken.well
-    (answer_due job course.claim stage frame answer now old.log sound taken.log answers)
-    (inr (record { stage = stage; frame = frame; taken = taken.log; answer = answer; next = now; answers = answers; some = some })) stop
-    (subst (IsRelated job) (append-nil old.log) (related_answer job course.claim stage frame answer now old.log 0 sound taken.log answers))
-    (taken_unheard job course.claim stage frame old.log sound taken.log)
+pub stops_answering : (job : ProverJob) (claim : Claim) (first : LinkSnapshot) (stage : ProverStage) (frame : Frame) (answer : List Frame) (next : ProverStage) (f : LineFault)
+    (now : LinkSnapshot) → IsSound job → IsLogTaken job claim stage frame now.log → ProverAnswers job stage frame answer next → least_for f ≤ length answer
+    → KeepsDue (flat_map frame_spelling answer) f first now → HasEnded job claim first (line_outcome f) now
+stops_answering job claim first stage frame answer next f now sound taken answers some kept =
+    stops_sending job claim first (flat_map frame_spelling answer) f now
+    (answer_due job claim stage frame answer next now.log sound taken answers)
+    (inr (record { stage = stage; frame = frame; taken = taken; answer = answer; next = next; answers = answers; some = some })) kept
+    (subst (IsRelated job) (append-nil now.log) (related_answer job claim stage frame answer next now.log 0 sound taken answers))
+    (taken_unheard job claim stage frame now.log sound taken)
 
 -- no answer is found
-pub stops_unanswered : (job : ProverJob) (course : Course) (stage : ProverStage) (frame : Frame) (line : LineState)
-    → IsSound job → IsLineTaken job course stage frame line → IsEnded job course NoMemory line
-stops_unanswered job course stage frame line sound taken =
-    let found = answer_exists job course.claim stage frame line.log sound taken.log in
-    stops_answering job course stage frame found.0 found.1 fault.NoMemory line line sound taken found.2 (omega arith) (stops_before (flat_map frame_spelling found.0) line)
+pub stops_unanswered : (job : ProverJob) (claim : Claim) (first : LinkSnapshot) (stage : ProverStage) (frame : Frame) (now : LinkSnapshot)
+    → IsSound job → IsLogTaken job claim stage frame now.log → AnswersEach first now → HasEnded job claim first NoMemory now
+stops_unanswered job claim first stage frame now sound taken well =
+    let found = answer_exists job claim stage frame now.log sound taken in
+    stops_answering job claim first stage frame found.0 found.1 fault.NoMemory now sound taken found.2 (omega arith) (inl (refl, well))
 
 -- the prover refuses to answer: only for want of memory
-pub refuses_nothing : (job : ProverJob) (course : Course) (stage : ProverStage) (frame : Frame) (f : ProverFault) (line : LineState)
-    → IsSound job → IsLineTaken job course stage frame line → ProverRefuses job stage frame f → IsEnded job course (session_outcome f) line
-refuses_nothing job course stage frame session.BadGrant line sound taken (given, there, is, unsuited) =
-    absurd (elsewhere stage frame taken.log is unsuited)
+pub refuses_nothing : (job : ProverJob) (claim : Claim) (first : LinkSnapshot) (stage : ProverStage) (frame : Frame) (f : ProverFault) (line : LinkSnapshot)
+    → IsSound job → IsLogTaken job claim stage frame line.log → AnswersEach first line → ProverRefuses job stage frame f
+    → HasEnded job claim first (session_outcome f) line
+refuses_nothing job claim first stage frame session.BadGrant line sound taken well (given, there, is, unsuited) =
+    absurd (elsewhere stage frame taken is unsuited)
   where
-    elsewhere : (stage : ProverStage) (frame : Frame) → IsLogTaken job course.claim stage frame line.log → frame ≡ grant given
+    elsewhere : (stage : ProverStage) (frame : Frame) → IsLogTaken job claim stage frame line.log → frame ≡ grant given
         → (Suits job.file.params job.statement.program given → ⊥) → ⊥
     elsewhere awaits_grant frame (other, is_too, claimed, granted, at) is unsuited =
         let same : other ≡ given = cc in
@@ -428,14 +402,14 @@ refuses_nothing job course stage frame session.BadGrant line sound taken (given,
     elsewhere (awaits_replies other came) frame (trees, is_too, are, claimed, some, at) is unsuited = cc
     elsewhere (awaits_challenge other pairs wires) frame (element, rounds, d, is_too, ranged, claimed, fixes, at) is unsuited = cc
     elsewhere other frame taken is unsuited = taken
-refuses_nothing job course stage frame (session.PeerRefused code) line sound taken (there, is) = absurd (elsewhere stage frame taken.log is)
+refuses_nothing job claim first stage frame (session.PeerRefused code) line sound taken well (there, is) = absurd (elsewhere stage frame taken is)
   where
-    elsewhere : (stage : ProverStage) (frame : Frame) → IsLogTaken job course.claim stage frame line.log → frame ≡ refuse code → ⊥
+    elsewhere : (stage : ProverStage) (frame : Frame) → IsLogTaken job claim stage frame line.log → frame ≡ refuse code → ⊥
     elsewhere awaits_grant frame (given, is_too, claimed, granted, at) is = cc
     elsewhere (awaits_replies other came) frame (trees, is_too, are, claimed, some, at) is = cc
     elsewhere (awaits_challenge other pairs wires) frame (element, rounds, d, is_too, ranged, claimed, fixes, at) is = cc
     elsewhere other frame taken is = taken
-refuses_nothing job course stage frame session.NoMemory line sound taken refused = stops_unanswered job course stage frame line sound taken
+refuses_nothing job claim first stage frame session.NoMemory line sound taken well refused = stops_unanswered job claim first stage frame line sound taken well
 
 -- Why a session ends where it does.
 
@@ -512,31 +486,15 @@ answers_at job claim stage awaited before bytes outcome sound at expected unfini
 
 -- ---- what the link tells
 
--- the log alone
-pub logged_whole : (job : ProverJob) (claim : Claim) (outcome : ProverOutcome) (log : List (Side × ℕ)) (first now : LinkSnapshot)
-    → now.told ≡ appended log first.told → now.refused_sends ≡ first.refused_sends
-    → ((inputs wires : List ℕ) → IsWitness job.statement inputs wires job.given → IsFromHonestProver (task_of job inputs) log)
-    → SendsOnceClaimed job claim log → IsLogged job claim outcome log first now
-logged_whole job claim outcome log first now told unrefused honest claimed = record {
-  part = [];
-  told = told ∙ ap (λ l. appended l first.told) (sym none);
-  none = λ no. refl;
-  refused = inl (refl, unrefused);
-  honest = λ inputs wires witness. subst (λ l. IsFromHonestProver (task_of job inputs) l) (sym none) (honest inputs wires witness);
-  claimed = subst (λ l. SendsOnceClaimed job claim l) (sym none) claimed;
-}
-  where
-    none : log ++ bytes_from Prover [] ≡ log
-    none = append-nil log
-
--- a session that goes well up to its end
-pub ends_well : (job : ProverJob) (course : Course) (outcome : ProverOutcome) (line : LineState) → GoesWell course.first line
-    → IsOutcome job course.claim line.log (snapshot_of course.first) (snapshot_of line) outcome → IsAskedRight job course.claim line.log
-    → SendsOnceClaimed job course.claim line.log → IsRelated job line.log → AnswersGrantPlace job course.claim outcome line.log
+-- a session of which nothing is told beside its log
+ends_sent : (job : ProverJob) (claim : Claim) (first : LinkSnapshot) (outcome : ProverOutcome) (line : LinkSnapshot)
+    → IsSent Prover line.log first line → CountsOutcome outcome first.faults line.faults
+    → IsOutcome job claim line.log first line outcome → IsAskedRight job claim line.log
+    → SendsOnceClaimed job claim line.log → IsRelated job line.log → AnswersGrantPlace job claim outcome line.log
     → AnswersVerdict job outcome line.log → SendsHonestly job line.log outcome
     → ((inputs wires : List ℕ) → IsWitness job.statement inputs wires job.given → IsFromHonestProver (task_of job inputs) line.log)
-    → IsEnded job course outcome line
-ends_well job course outcome line well is asked claimed related answers answered honest from = record {
+    → HasEnded job claim first outcome line
+ends_sent job claim first outcome line sent count is asked claimed related answers answered honest from = record {
   outcome_is = is;
   asked = asked;
   honest = honest;
@@ -544,36 +502,48 @@ ends_well job course outcome line well is asked claimed related answers answered
   related = related;
   answers = answers;
   verdict = answered;
-  sends = inl (well.sends, well.refused_sends);
-  logged = logged_whole job course.claim outcome line.log (snapshot_of course.first) (snapshot_of line) well.told well.refused_sends from claimed;
-  came = well.came;
-  receives = omega (arith, well.receives);
-  count = record { later = omega (arith, well.faults); unfailed = λ _. well.faults };
+  sends = inl (sent.sends, sent.refused_sends);
+  logged = record {
+    part = [];
+    told = sent.told ∙ ap (λ l. appended l first.told) (sym none);
+    refused = inl (refl, sent.refused_sends);
+    honest = λ inputs wires witness. subst (λ l. IsFromHonestProver (task_of job inputs) l) (sym none) (from inputs wires witness);
+    claimed = subst (λ l. SendsOnceClaimed job claim l) (sym none) claimed;
+  };
+  count = count;
 }
+  where
+    none : line.log ++ bytes_from Prover [] ≡ line.log
+    none = append-nil line.log
+
+-- and that goes well up to its end
+pub ends_well : (job : ProverJob) (claim : Claim) (first : LinkSnapshot) (outcome : ProverOutcome) (line : LinkSnapshot) → AnswersEach first line
+    → IsOutcome job claim line.log first line outcome → IsAskedRight job claim line.log
+    → SendsOnceClaimed job claim line.log → IsRelated job line.log → AnswersGrantPlace job claim outcome line.log
+    → AnswersVerdict job outcome line.log → SendsHonestly job line.log outcome
+    → ((inputs wires : List ℕ) → IsWitness job.statement inputs wires job.given → IsFromHonestProver (task_of job inputs) line.log)
+    → HasEnded job claim first outcome line
+ends_well job claim first outcome line well =
+    ends_sent job claim first outcome line well.sent (record { later = omega (arith, well.faults); unfailed = λ _. well.faults })
 
 -- ---- a frame came, or none
 
--- a first moment of a line of the prover's
-abbrev pub mine : LineState → LineState
-mine first = record first { side = Prover }
+-- where a prover waited
+pub record Comes (job : ProverJob) (claim : Claim) (first : LinkSnapshot) (stage : ProverStage) (frame : Frame) (now : LinkSnapshot) : Type 0 where
+  pub before : List (Side × ℕ)
+  pub waited : IsLogAt job claim stage before
+  pub logged : now.log ≡ before ++ bytes_from Verifier (frame_spelling frame)
+  pub well : AnswersEach first now
 
 -- what passed goes well
-pub well_of : (log : List (Side × ℕ)) (number : ℕ) (first now : LineState) → number ≡ answers_in log → HasPassed log number (mine first) now
-    → GoesWell (mine first) now
-well_of log number first now counts passed =
-    subst (λ (q : List (Side × ℕ) × ℕ). HasPassed q.0 q.1 (mine first) now)
-    (λ i. (sym passed.logged i, (counts ∙ ap answers_in (sym passed.logged)) i)) passed
+pub well_of : (log : List (Side × ℕ)) (first now : LinkSnapshot) → GoesWell Prover log first now → AnswersEach first now
+well_of log first now well = subst (λ l. GoesWell Prover l first now) (sym well.logged) well
 
 -- a frame has come
-pub comes : (job : ProverJob) (claim : Claim) (stage : ProverStage) (frame : Frame) (log : List (Side × ℕ)) (number : ℕ) (first now : LineState)
-    → IsLogAt job claim stage log → number ≡ answers_in log → HasPassed (log ++ bytes_from Verifier (frame_spelling frame)) number (mine first) now
-    → Comes job (record { first = mine first; claim = claim }) stage frame now
-comes job claim stage frame log number first now at counts passed = record {
-  before = log;
-  waited = at;
-  logged = passed.logged;
-  well = well_of (log ++ bytes_from Verifier (frame_spelling frame)) number first now (counts ∙ sym (answers_heard log (frame_spelling frame))) passed;
-}
+pub comes : (job : ProverJob) (claim : Claim) (stage : ProverStage) (frame : Frame) (log : List (Side × ℕ)) (first now : LinkSnapshot)
+    → IsLogAt job claim stage log → GoesWell Prover (log ++ bytes_from Verifier (frame_spelling frame)) first now → Comes job claim first stage frame now
+comes job claim stage frame log first now at well =
+    record { before = log; waited = at; logged = well.logged; well = well_of (log ++ bytes_from Verifier (frame_spelling frame)) first now well }
 
 -- what was sent is for an honest prover, whatever the fault
 sent_line : (f : LineFault) (job : ProverJob) (log : List (Side × ℕ))
@@ -584,64 +554,65 @@ sent_line fault.NoMemory job log ended inputs wires witness = from_ended job inp
 sent_line other job log ended inputs wires witness = ended inputs wires witness
 
 -- none has come
-pub stops_taking : {S F : Type 0} (moves : Moves S F) (job : ProverJob) (claim : Claim) (stage : ProverStage) (log : List (Side × ℕ)) (number : ℕ) (mid other : S) (f : LineFault)
-    (first now : LineState) → IsSound job → IsLogAt job claim stage log → moves.expects mid ≡ prover_expects job stage → number ≡ answers_in log
-    → IsMissing moves log number mid other f (mine first) now → IsEnded job (record { first = mine first; claim = claim }) (line_outcome f) now
-stops_taking moves job claim stage log number mid other f first now sound at same counts missing = record {
-  outcome_is = by_fault f missing.cause missing.cut;
-  asked = subst (λ l. IsAskedRight job claim l) (sym missing.logged) (asked_at job claim stage log (bytes_from Verifier missing.rest) at);
-  honest = sent_line f job now.log ended;
-  claimed = claimed;
-  related = subst (IsRelated job) (sym missing.logged) (related_at job claim stage log missing.rest sound at);
-  answers = subst (AnswersGrantPlace job claim (line_outcome f)) (sym missing.logged)
-      (answers_at job claim stage missing.place log missing.rest (line_outcome f) sound at expected missing.unfinished);
-  verdict = unread job (line_outcome f) now.log (record {
-    turn = turns_at job stage;
-    unheard = λ heard. not_heard job claim stage missing.place log missing.rest [] sound at expected within missing.unfinished
-        (subst (λ l. Hears (task_of job []) l (turns_at job stage)) (ap (sent_by Verifier) missing.logged ∙ came_more Prover log missing.rest) heard);
-  });
-  sends = inl (sends, missing.refused_sends);
-  logged = logged_whole job claim (line_outcome f) now.log (snapshot_of (mine first)) (snapshot_of now) missing.told missing.refused_sends
-      (λ inputs wires witness. from_ended job inputs now.log (ended inputs wires witness)) claimed;
-  came = missing.came;
-  receives = missing.receives;
-  count = counts_line f (mine first) now missing.count;
-}
+pub stops_taking : {S F : Type 0} (moves : Moves S F) (job : ProverJob) (claim : Claim) (stage : ProverStage) (log : List (Side × ℕ)) (mid other : S) (f : LineFault)
+    (first now : LinkSnapshot) → IsSound job → IsLogAt job claim stage log → moves.expects mid ≡ prover_expects job stage
+    → Misses moves Prover log mid other f first now → HasEnded job claim first (line_outcome f) now
+stops_taking moves job claim stage log mid other f first now sound at same misses =
+    ends_sent job claim first (line_outcome f) now sent (counts_line f first now short.calls) (by_fault f short.cause short.calls short.part.cut)
+    (subst (λ l. IsAskedRight job claim l) (sym logged) (asked_at job claim stage log (bytes_from Verifier rest) at))
+    (subst (λ l. SendsOnceClaimed job claim l) (sym logged) (once_claimed job claim stage log rest at))
+    (subst (IsRelated job) (sym logged) (related_at job claim stage log rest sound at))
+    (subst (AnswersGrantPlace job claim (line_outcome f)) (sym logged)
+    (answers_at job claim stage misses.place log rest (line_outcome f) sound at expected short.part.unfinished))
+    (unread job (line_outcome f) now.log (record {
+      turn = turns_at job stage;
+      unheard = λ heard. not_heard job claim stage misses.place log rest [] sound at expected within short.part.unfinished
+          (subst (λ l. Hears (task_of job []) l (turns_at job stage)) (ap (sent_by Verifier) logged ∙ came_more Prover log rest) heard);
+    }))
+    (sent_line f job now.log ended) (λ inputs wires witness. from_ended job inputs now.log (ended inputs wires witness))
   where
-    expected : prover_expects job stage ≡ Some missing.place
-    expected = sym same ∙ missing.expected
+    rest : List ℕ
+    rest = misses.rest
 
-    within : length missing.rest ≤ longest missing.place
-    within = within_longest missing.place missing.rest missing.few
+    short : StopsShort Prover (log ++ bytes_from Verifier misses.rest) misses.place misses.rest f first now
+    short = misses.short
 
-    sends : now.sends ≡ counted_times (answers_in now.log) first.sends
-    sends = missing.sends ∙ ap (λ (k : ℕ). counted_times k first.sends) (counts ∙ sym (ap answers_in missing.logged ∙ answers_heard log missing.rest))
+    logged : now.log ≡ log ++ bytes_from Verifier misses.rest
+    logged = misses.short.logged
+
+    expected : prover_expects job stage ≡ Some misses.place
+    expected = sym same ∙ misses.expected
+
+    within : length misses.rest ≤ longest misses.place
+    within = within_longest misses.place misses.rest misses.short.part.few
+
+    sent : IsSent Prover now.log first now
+    sent = subst (λ l. IsSent Prover l first now) (sym misses.short.logged) misses.short.sent
 
     ended : (inputs wires : List ℕ) → IsWitness job.statement inputs wires job.given → HasEndedHonestly (task_of job inputs) now.log
-    ended inputs wires witness = subst (λ l. HasEndedHonestly (task_of job inputs) l) (sym missing.logged)
-        (has_answered job claim stage missing.place log missing.rest inputs wires sound at expected within missing.unfinished witness)
+    ended inputs wires witness = subst (λ l. HasEndedHonestly (task_of job inputs) l) (sym misses.short.logged)
+        (has_answered job claim stage misses.place log misses.rest inputs wires sound at (sym same ∙ misses.expected)
+        (within_longest misses.place misses.rest misses.short.part.few) misses.short.part.unfinished witness)
 
-    claimed : SendsOnceClaimed job claim now.log
-    claimed = subst (λ l. SendsOnceClaimed job claim l) (sym missing.logged) (once_claimed job claim stage log missing.rest at)
-
-    behind : ComesBehind job claim now.log
-    behind = record {
+    comes_so : ComesAt (IsLogAt job claim) (prover_expects job) Verifier stage now.log
+    comes_so = record {
       before = log;
-      expect = missing.place;
-      waits = record { stage = stage; waited = at; expected = expected };
-      rest = missing.rest;
-      few = missing.few;
-      logged = missing.logged;
+      waited = at;
+      place = misses.place;
+      expected = sym same ∙ misses.expected;
+      rest = misses.rest;
+      few = misses.short.part.few;
+      logged = misses.short.logged;
     }
 
-    by_fault : (f : LineFault) → Lacks missing.place missing.rest f (mine first) now → (lines.IsNoBadByte f → IsCutShort missing.place missing.rest)
-        → IsOutcome job claim now.log (snapshot_of (mine first)) (snapshot_of now) (line_outcome f)
-    by_fault (fault.PeerEnded place_at) cause cut =
+    by_fault : (f : LineFault) → IsShortBy Verifier misses.place misses.rest f now → CountsCalls f first now
+        → (lines.IsNoBadByte f → IsCutShort misses.place misses.rest) → IsOutcome job claim now.log first now (line_outcome f)
+    by_fault (fault.PeerEnded place_at) cause calls cut =
         let begun = cut tt in
-        (record { behind = behind; cause = (begun.goes_on, begun.short) }, cause.0, cause.1, cause.2)
-    by_fault (fault.BadFrame place_at) cause cut = (cause.0, record { behind = behind; cause = (cause.1, cause.2) })
-    by_fault fault.Link cause cut = (cause, inl (record { behind = behind; cause = cut tt }, sends, missing.refused_sends))
-    by_fault fault.NoMemory cause cut = inl (record { behind = behind; cause = cut tt })
+        (record { stage = stage; comes = comes_so; cause = (begun.goes_on, begun.short) }, cause.0, cause.1, cause.2)
+    by_fault (fault.BadFrame place_at) cause calls cut = (cause.0, record { stage = stage; comes = comes_so; cause = (cause.1, cause.2) })
+    by_fault fault.Link cause calls cut = (calls.failed refl, inl (record { stage = stage; comes = comes_so; cause = cut tt }, sent.sends, sent.refused_sends))
+    by_fault fault.NoMemory cause calls cut = inl (record { stage = stage; comes = comes_so; cause = cut tt })
 
 -- ---- a verdict has come
 
@@ -660,91 +631,87 @@ spelled job given rounds pairs d wires element code number =
     ∙ ap (λ l. granted_log job given ++ l) (sym (flat_map-append (λ turn. bytes_from Prover turn.0 ++ bytes_from Verifier turn.1) (round_turns rounds)
     ((corrections_frame d, challenge_frame element) ∷ (s ++ o, verdict_frame code number) ∷ [])))
 
--- a verdict that was read
-record IsRead (job : ProverJob) (course : Course) (code number : ℕ) (line : LineState) : Type 0 where
-  reads : ReadsVerdict job line.log code number
-  ended : (inputs wires : List ℕ) → IsWitness job.statement inputs wires job.given → HasEndedHonestly (task_of job inputs) line.log
-  asked : IsAskedRight job course.claim line.log
-  claimed : SendsOnceClaimed job course.claim line.log
-  related : IsRelated job line.log
-  answers : (result : ProverOutcome) → AnswersGrantPlace job course.claim result line.log
+-- a session whose verdict was read has ended as it says
+ends_verdict : (job : ProverJob) (claim : Claim) (first : LinkSnapshot) (frame : Frame) (code number : ℕ) (line : LinkSnapshot) → IsSound job
+    → Comes job claim first awaits_verdict frame line → Allows expect.Verdict frame → frame ≡ verdict code number
+    → HasEnded job claim first (verdict_outcome code number) line
+ends_verdict job claim first frame code number line sound come allowed is =
+    ends_well job claim first result line come.well (caused code reads)
+    (subst (λ l. IsAskedRight job claim l) (sym come.logged) (asked_at job claim awaits_verdict come.before (bytes_from Verifier (frame_spelling frame)) opened))
+    (subst (λ l. SendsOnceClaimed job claim l) (sym come.logged) (once_claimed job claim awaits_verdict come.before (frame_spelling frame) opened))
+    (subst (IsRelated job) (sym come.logged) (related_at job claim awaits_verdict come.before (frame_spelling frame) sound opened))
+    (subst (AnswersGrantPlace job claim result) (sym come.logged)
+    (answers_behind_claim job claim awaits_verdict come.before (bytes_from Verifier (frame_spelling frame)) result sound tt opened))
+    (read_so job result line.log code number sound reads refl) (honest code)
+    (λ inputs wires witness. from_ended job inputs line.log (ended inputs wires witness))
+  where
+    result : ProverOutcome
+    result = verdict_outcome code number
 
-is_read : (job : ProverJob) (course : Course) (frame : Frame) (code number : ℕ) (line : LineState) → IsSound job
-    → Comes job course awaits_verdict frame line → FitsVerdict code number → frame ≡ verdict code number → IsRead job course code number line
-is_read job course frame code number line sound come fits is =
-    let opened : IsOpenedLog job course.claim come.before = come.waited in
-    let logged : line.log ≡ opened_log job opened.given opened.rounds opened.pairs opened.d opened.wires opened.element ++ bytes_from Verifier
-    (verdict_frame code number) =
-    come.logged ∙ (λ i. opened.logged i ++ bytes_from Verifier (frame_spelling (is i))) in
-    let heard : sent_by Verifier line.log ≡
-    ((grant_frame opened.given ++ answered (round_turns opened.rounds)) ++ challenge_frame opened.element) ++ verdict_frame code number =
-    ap (sent_by Verifier) logged ∙ came_more Prover (opened_log job opened.given opened.rounds opened.pairs opened.d opened.wires opened.element)
-    (verdict_frame code number)
-    ∙ ap (λ l. l ++ verdict_frame code number) (opened_heard job opened.given opened.rounds opened.pairs opened.d opened.wires opened.element) in
-    let sent : sent_by Prover line.log ≡ all_sent job opened.given opened.rounds opened.pairs opened.d opened.wires opened.element =
-    ap (sent_by Prover) logged ∙ came_same Verifier (opened_log job opened.given opened.rounds opened.pairs opened.d opened.wires opened.element)
-    (verdict_frame code number)
-    ∙ opened_sent job opened.given opened.rounds opened.pairs opened.d opened.wires opened.element in
-    record {
-      reads = record {
-        t = made job opened.given opened.rounds opened.pairs opened.d opened.wires opened.element code number;
-        in_order = record {
-          stated = sound.stated;
-          hello = wanted_fits job.file.id job.statement sound.stated;
-          transcript = made_is job opened.given opened.rounds opened.pairs opened.d opened.wires opened.element code number sound opened.fixes opened.is fits.said fits.numbered;
-          bytes = logged ∙ spelled job opened.given opened.rounds opened.pairs opened.d opened.wires opened.element code number;
-        };
-        greeted = refl;
-        honest = λ inputs wires witness. made_honest job opened.given opened.rounds opened.pairs opened.d opened.wires opened.element code number inputs wires opened.fixes witness;
-        code_is = refl;
-        number_is = refl;
+    opened : IsOpenedLog job claim come.before
+    opened = come.waited
+
+    fits : FitsVerdict code number
+    fits =
+        let (some, other, is_too, ranged) = allowed in
+        let codes : some ≡ code = cc in
+        let numbers : other ≡ number = cc in
+        subst (λ (q : ℕ × ℕ). FitsVerdict q.0 q.1) (λ i. (codes i, numbers i)) ranged
+
+    before : List (Side × ℕ)
+    before = opened_log job opened.given opened.rounds opened.pairs opened.d opened.wires opened.element
+
+    logged : line.log ≡ before ++ bytes_from Verifier (verdict_frame code number)
+    logged = come.logged ∙ (λ i. opened.logged i ++ bytes_from Verifier (frame_spelling (is i)))
+
+    heard : sent_by Verifier line.log ≡
+        ((grant_frame opened.given ++ answered (round_turns opened.rounds)) ++ challenge_frame opened.element) ++ verdict_frame code number
+    heard = ap (sent_by Verifier) logged ∙ came_more Prover before (verdict_frame code number)
+        ∙ ap (λ l. l ++ verdict_frame code number) (opened_heard job opened.given opened.rounds opened.pairs opened.d opened.wires opened.element)
+
+    sent : sent_by Prover line.log ≡ all_sent job opened.given opened.rounds opened.pairs opened.d opened.wires opened.element
+    sent = ap (sent_by Prover) logged ∙ came_same Verifier before (verdict_frame code number)
+        ∙ opened_sent job opened.given opened.rounds opened.pairs opened.d opened.wires opened.element
+
+    reads : ReadsVerdict job line.log code number
+    reads = record {
+      t = made job opened.given opened.rounds opened.pairs opened.d opened.wires opened.element code number;
+      in_order = record {
+        stated = sound.stated;
+        hello = wanted_fits job.file.id job.statement sound.stated;
+        transcript = made_is job opened.given opened.rounds opened.pairs opened.d opened.wires opened.element code number sound opened.fixes opened.is fits.said fits.numbered;
+        bytes = logged ∙ spelled job opened.given opened.rounds opened.pairs opened.d opened.wires opened.element code number;
       };
-      ended = λ inputs wires witness.
-          subst (λ (q : List ℕ × List ℕ). AreHonestBytes (task_of job inputs) q.0 q.1) (λ i. (sym heard i, sym sent i))
-          (finishes job opened.given opened.rounds opened.pairs opened.d opened.wires opened.element code number inputs wires sound opened.fixes opened.is fits.said fits.numbered witness);
-      asked = subst (λ l. IsAskedRight job course.claim l) (sym come.logged)
-          (asked_at job course.claim awaits_verdict come.before (bytes_from Verifier (frame_spelling frame)) opened);
-      claimed = subst (λ l. SendsOnceClaimed job course.claim l) (sym come.logged)
-          (once_claimed job course.claim awaits_verdict come.before (frame_spelling frame) opened);
-      related = subst (IsRelated job) (sym come.logged) (related_at job course.claim awaits_verdict come.before (frame_spelling frame) sound opened);
-      answers = λ result. subst (AnswersGrantPlace job course.claim result) (sym come.logged)
-          (answers_behind_claim job course.claim awaits_verdict come.before (bytes_from Verifier (frame_spelling frame)) result sound tt opened);
+      greeted = refl;
+      honest = λ inputs wires witness. made_honest job opened.given opened.rounds opened.pairs opened.d opened.wires opened.element code number inputs wires opened.fixes witness;
+      code_is = refl;
+      number_is = refl;
     }
 
-fits_of : (frame : Frame) (code number : ℕ) → Allows expect.Verdict frame → frame ≡ verdict code number → FitsVerdict code number
-fits_of frame code number (some, other, is_too, fits) is =
-    let codes : some ≡ code = cc in
-    let numbers : other ≡ number = cc in
-    subst (λ (q : ℕ × ℕ). FitsVerdict q.0 q.1) (λ i. (codes i, numbers i)) fits
+    ended : (inputs wires : List ℕ) → IsWitness job.statement inputs wires job.given → HasEndedHonestly (task_of job inputs) line.log
+    ended inputs wires witness = subst (λ (q : List ℕ × List ℕ). AreHonestBytes (task_of job inputs) q.0 q.1) (λ i. (sym heard i, sym sent i))
+        (finishes job opened.given opened.rounds opened.pairs opened.d opened.wires opened.element code number inputs wires sound opened.fixes opened.is fits.said fits.numbered witness)
 
--- a session whose verdict was read has ended as it says
-ends_read : (job : ProverJob) (course : Course) (frame : Frame) (result : ProverOutcome) (code number : ℕ) (line : LineState) → IsSound job
-    → Comes job course awaits_verdict frame line → IsRead job course code number line → result ≡ verdict_outcome code number
-    → IsOutcome job course.claim line.log (snapshot_of course.first) (snapshot_of line) result → SendsHonestly job line.log result
-    → IsEnded job course result line
-ends_read job course frame result code number line sound come read verdict_is outcome_is honest =
-    ends_well job course result line come.well outcome_is read.asked read.claimed read.related (read.answers result)
-    (read_so job result line.log code number sound read.reads verdict_is) honest
-    (λ inputs wires witness. from_ended job inputs line.log (read.ended inputs wires witness))
+    caused : (c : ℕ) → ReadsVerdict job line.log c number → IsOutcome job claim line.log first line (verdict_outcome c number)
+    caused zero read = (number, read)
+    caused (suc c) read = (omega arith, read)
+
+    honest : (c : ℕ) → SendsHonestly job line.log (verdict_outcome c number)
+    honest zero = ended
+    honest (suc c) = ended
 
 -- that every check holds
-pub ends_accepted : (job : ProverJob) (course : Course) (frame : Frame) (number : ℕ) (line : LineState) → IsSound job
-    → Comes job course awaits_verdict frame line → Allows expect.Verdict frame → frame ≡ verdict 0 number → IsEnded job course outcome.Accepted line
-ends_accepted job course frame number line sound come allowed is =
-    let read = is_read job course frame 0 number line sound come (fits_of frame 0 number allowed is) is in
-    ends_read job course frame outcome.Accepted 0 number line sound come read refl (number, read.reads) read.ended
-
-is_rejected : (code number : ℕ) → 1 ≤ code → outcome.Rejected code number ≡ verdict_outcome code number
-is_rejected zero number some = absurd (omega (arith, some))
-is_rejected (suc code) number some = refl
+pub ends_accepted : (job : ProverJob) (claim : Claim) (first : LinkSnapshot) (frame : Frame) (number : ℕ) (line : LinkSnapshot) → IsSound job
+    → Comes job claim first awaits_verdict frame line → Allows expect.Verdict frame → frame ≡ verdict 0 number → HasEnded job claim first outcome.Accepted line
+ends_accepted job claim first frame number line = ends_verdict job claim first frame 0 number line
 
 -- or that one does not
-pub ends_rejected : (job : ProverJob) (course : Course) (frame : Frame) (result : ProverOutcome) (line : LineState) → IsSound job
-    → Comes job course awaits_verdict frame line → Allows expect.Verdict frame → IsRejection frame result → IsEnded job course result line
-ends_rejected job course frame (outcome.Rejected code number) line sound come allowed (some, is) =
-    let read = is_read job course frame code number line sound come (fits_of frame code number allowed is) is in
-    ends_read job course frame (outcome.Rejected code number) code number line sound come read (is_rejected code number some) (some, read.reads) read.ended
-ends_rejected job course frame other line sound come allowed is = absurd is
+pub ends_rejected : (job : ProverJob) (claim : Claim) (first : LinkSnapshot) (frame : Frame) (result : ProverOutcome) (line : LinkSnapshot) → IsSound job
+    → Comes job claim first awaits_verdict frame line → Allows expect.Verdict frame → IsRejection frame result → HasEnded job claim first result line
+ends_rejected job claim first frame (outcome.Rejected zero number) line sound come allowed (some, is) = absurd (omega (arith, some))
+ends_rejected job claim first frame (outcome.Rejected (suc code) number) line sound come allowed (some, is) =
+    ends_verdict job claim first frame (suc code) number line sound come allowed is
+ends_rejected job claim first frame other line sound come allowed is = absurd is
 
 -- A greeting, and what comes in the grant's place.
 
@@ -770,27 +737,26 @@ greeting_due job claim sound unasked = record {
 }
 
 -- it is not sent
-pub stops_greeting : (job : ProverJob) (claim : Claim) (f : LineFault) (first new : LineState) → IsSound job → claim.answer ≡ None → IsFresh (mine first)
-    → SendStops (greeting job) f (mine first) new → IsEnded job (record { first = mine first; claim = claim }) (line_outcome f) new
-stops_greeting job claim f first new sound unasked fresh stops =
-    stops_sending_at job (record { first = mine first; claim = claim }) (greeting job) f (mine first) new
-    (well_of [] 0 first (mine first) refl (none_passed (mine first) fresh))
-    (subst (λ l. IsDue job claim l (greeting job)) (sym fresh.log) (greeting_due job claim sound unasked)) (inl (unasked, fresh.log)) stops
-    (subst (IsRelated job) (sym fresh.log) (related_part job [] (greeting job) refl))
-    (subst (IsUnheard job) (sym fresh.log) (record { turn = 0; unheard = no_bytes (task_of job []) }))
+pub stops_greeting : (job : ProverJob) (claim : Claim) (first : LinkSnapshot) (f : LineFault) (now : LinkSnapshot) → IsSound job → claim.answer ≡ None
+    → now.log ≡ [] → KeepsDue (greeting job) f first now → HasEnded job claim first (line_outcome f) now
+stops_greeting job claim first f now sound unasked none kept =
+    stops_sending job claim first (greeting job) f now
+    (subst (λ l. IsDue job claim l (greeting job)) (sym none) (greeting_due job claim sound unasked)) (inl (unasked, none)) kept
+    (subst (IsRelated job) (sym none) (related_part job [] (greeting job) refl))
+    (subst (IsUnheard job) (sym none) (record { turn = 0; unheard = no_bytes (task_of job []) }))
 
 -- ---- what comes
 
 -- what came in the grant's place is no grant that fits: the greeting alone was sent, and is what an honest prover sends
-ends_unmet : (job : ProverJob) (course : Course) (result : ProverOutcome) (bytes : List ℕ) (new : LineState) → GoesWell course.first new
-    → course.claim.answer ≡ None → new.log ≡ greeted_log job ++ bytes_from Verifier bytes
+ends_unmet : (job : ProverJob) (claim : Claim) (first : LinkSnapshot) (result : ProverOutcome) (bytes : List ℕ) (new : LinkSnapshot) → AnswersEach first new
+    → claim.answer ≡ None → new.log ≡ greeted_log job ++ bytes_from Verifier bytes
     → ((inputs : List ℕ) → Hears (task_of job inputs) bytes 0 → ⊥)
     → (((inputs wires : List ℕ) → IsWitness job.statement inputs wires job.given
     → HasEndedHonestly (task_of job inputs) new.log × (sent_by Prover new.log ≡ greeting job)) → SendsHonestly job new.log result)
-    → AnswersGrantPlace job course.claim result new.log → IsOutcome job course.claim new.log (snapshot_of course.first) (snapshot_of new) result
-    → IsEnded job course result new
-ends_unmet job course result bytes new well unasked logged unmet honest answers is =
-    ends_well job course result new well is (inl unasked) (inl ([], sym (append-nil (sent_by Prover new.log) ∙ sent)))
+    → AnswersGrantPlace job claim result new.log → IsOutcome job claim new.log first new result
+    → HasEnded job claim first result new
+ends_unmet job claim first result bytes new well unasked logged unmet honest answers is =
+    ends_well job claim first result new well is (inl unasked) (inl ([], sym (append-nil (sent_by Prover new.log) ∙ sent)))
     (related_greeting job new.log sent)
     answers
     (unread job result new.log (record { turn = 0; unheard = λ h. unmet [] (subst (λ l. Hears (task_of job []) l 0) heard h) }))
@@ -807,9 +773,14 @@ ends_unmet job course result bytes new well unasked logged unmet honest answers 
         (greets job inputs bytes (unmet inputs))
 
 -- a grant has come
-pub grant_taken : (job : ProverJob) (course : Course) (frame : Frame) (given : Grant) (new : LineState) → Comes job course awaits_grant frame new
-    → Allows expect.Grant frame → frame ≡ grant given → IsGrantTaken job course.first given new
-grant_taken job course frame given new come allowed is = record {
+pub record IsGrantTaken (job : ProverJob) (first : LinkSnapshot) (given : Grant) (now : LinkSnapshot) : Type 0 where
+  pub fits : FitsGrant given
+  pub log : now.log ≡ granted_log job given
+  pub well : AnswersEach first now
+
+pub grant_taken : (job : ProverJob) (claim : Claim) (first : LinkSnapshot) (frame : Frame) (given : Grant) (new : LinkSnapshot) → Comes job claim first awaits_grant frame new
+    → Allows expect.Grant frame → frame ≡ grant given → IsGrantTaken job first given new
+grant_taken job claim first frame given new come allowed is = record {
   fits = fits allowed;
   log = come.logged ∙ (λ i. come.waited.1 i ++ bytes_from Verifier (frame_spelling (is i)));
   well = come.well;
@@ -820,21 +791,21 @@ grant_taken job course frame given new come allowed is = record {
     fits (inr (code, is_too, ranged)) = absurd (cc)
 
 -- no grant that suits has come
-pub ends_ungranted : (job : ProverJob) (course : Course) (frame : Frame) (result : ProverOutcome) (new : LineState) → IsSound job
-    → Comes job course awaits_grant frame new → Allows expect.Grant frame → IsNoGrant job frame result → IsEnded job course result new
-ends_ungranted job course frame outcome.BadGrant new sound come allowed (given, is, unsuited) =
-    let taken : IsGrantTaken job course.first given new = grant_taken job course frame given new come allowed is in
-    ends_unmet job course outcome.BadGrant (grant_frame given) new come.well come.waited.0 taken.log
+pub ends_ungranted : (job : ProverJob) (claim : Claim) (first : LinkSnapshot) (frame : Frame) (result : ProverOutcome) (new : LinkSnapshot) → IsSound job
+    → Comes job claim first awaits_grant frame new → Allows expect.Grant frame → IsNoGrant job frame result → HasEnded job claim first result new
+ends_ungranted job claim first frame outcome.BadGrant new sound come allowed (given, is, unsuited) =
+    let taken : IsGrantTaken job first given new = grant_taken job claim first frame given new come allowed is in
+    ends_unmet job claim first outcome.BadGrant (grant_frame given) new come.well come.waited.0 taken.log
     (λ inputs heard. unsuited (suits_is job.file.params job.statement.program given
     (one_grant (task_of job inputs) given sound.file.params.total taken.fits heard)))
-    (λ both. both) (answers_frame job course.claim (grant given) new.log (inl (given, refl, taken.fits)) taken.log outcome.BadGrant
+    (λ both. both) (answers_frame job claim (grant given) new.log (inl (given, refl, taken.fits)) taken.log outcome.BadGrant
     (λ fault asked. absurd (none_is_some (sym come.waited.0 ∙ asked))) (λ _ _ _. refl) (λ code same. absurd (cc))
     (λ other same suits. absurd (unsuited (let one : other ≡ given = cc in subst (Suits job.file.params job.statement.program) one suits))))
     (given, taken.fits, unsuited, taken.log)
-ends_ungranted job course frame (outcome.PeerRefused code) new sound come allowed is =
-    ends_unmet job course (outcome.PeerRefused code) (refuse_frame code) new come.well come.waited.0 logged
+ends_ungranted job claim first frame (outcome.PeerRefused code) new sound come allowed is =
+    ends_unmet job claim first (outcome.PeerRefused code) (refuse_frame code) new come.well come.waited.0 logged
     (λ inputs heard. absurd (omega (arith, ap length heard.begun)))
-    (λ both. both) (answers_frame job course.claim (refuse code) new.log (inr (code, refl, fits allowed)) logged (outcome.PeerRefused code)
+    (λ both. both) (answers_frame job claim (refuse code) new.log (inr (code, refl, fits allowed)) logged (outcome.PeerRefused code)
     (λ fault asked. absurd (none_is_some (sym come.waited.0 ∙ asked))) (λ given same _. absurd (cc))
     (λ other same. let one : code ≡ other = cc in ap outcome.PeerRefused one) (λ given same _. absurd (cc))) (fits allowed, logged)
   where
@@ -844,7 +815,7 @@ ends_ungranted job course frame (outcome.PeerRefused code) new sound come allowe
     fits : Allows expect.Grant frame → FitsRefusal code
     fits (inl (given, is_too, ranged)) = absurd (cc)
     fits (inr (other, is_too, ranged)) = let same : other ≡ code = cc in subst FitsRefusal same ranged
-ends_ungranted job course frame other new sound come allowed is = absurd is
+ends_ungranted job claim first frame other new sound come allowed is = absurd is
 
 -- ---- the claim
 
@@ -860,14 +831,14 @@ granted_is job given suits within = record {
 }
 
 -- the claimant has refused
-pub ends_unclaimed : (job : ProverJob) (course : Course) (given : Grant) (f : ClaimFault) (line : LineState) → IsSound job
-    → Suits job.file.params job.statement.program given → IsGrantTaken job course.first given line → RefusedFor course.claim given f
-    → IsEnded job course (claim_outcome f) line
-ends_unclaimed job course given f line sound suits taken refused =
-    ends_well job course (claim_outcome f) line taken.well (caused f refused)
+pub ends_unclaimed : (job : ProverJob) (claim : Claim) (first : LinkSnapshot) (given : Grant) (f : ClaimFault) (line : LinkSnapshot) → IsSound job
+    → Suits job.file.params job.statement.program given → IsGrantTaken job first given line → RefusedFor claim given f
+    → HasEnded job claim first (claim_outcome f) line
+ends_unclaimed job claim first given f line sound suits taken refused =
+    ends_well job claim first (claim_outcome f) line taken.well (caused f refused)
     (inr (given, record { suits = suits; begun = ([], taken.log ∙ sym (append-nil (granted_log job given))) }, inr (f, refused)))
     (inl ([], sym (append-nil (sent_by Prover line.log) ∙ sent))) (related_greeting job line.log sent)
-    (answers_frame job course.claim (grant given) line.log (inl (given, refl, taken.fits)) taken.log (claim_outcome f)
+    (answers_frame job claim (grant given) line.log (inl (given, refl, taken.fits)) taken.log (claim_outcome f)
     (λ other answer.
     let is = refused.answer in
     let same : f ≡ other = cc in
@@ -910,8 +881,8 @@ ends_unclaimed job course given f line sound suits taken refused =
           )
     ]
 
-    caused : (f : ClaimFault) → RefusedFor course.claim given f → IsOutcome job course.claim line.log
-        (snapshot_of course.first) (snapshot_of line) (claim_outcome f)
+    caused : (f : ClaimFault) → RefusedFor claim given f → IsOutcome job claim line.log
+        first line (claim_outcome f)
     caused refusal.NoMemory refused = inr (inr (given, suits, refused, taken.log))
     caused other refused = (given, suits, refused, taken.log)
 

@@ -5,8 +5,8 @@ use Rattle.frame_laws.proofs.SentBytes.{sent_by-append, own_bytes, none_of_prove
 use Rattle.zk_model.specs.Transcript.{bytes_from, sent_by, Grant, TreeReply, reply_frame, Hello, TreeAsk, Round, Setup, IsGrant, IsRound, IsTreeReply, ForEachTree, Transcript, IsTranscript, session_turns, grant_frame, corrections_frame, challenge_frame, sums_frame, openings_frame, verdict_frame, IsInOrder, IsSetup, IsCommitment, ask_frame, turn_bytes}
 use Rattle.zk_model.specs.declared.Side.{Side}
 use Rattle.zk_model.specs.declared.Side.TheVariants.{Prover, Verifier}
-use Rattle.zk_model.specs.Frames.{Frame, hello, frame_spelling, AreReplies, grant, replies, challenge, verdict, Allows, FitsGrant}
-use Rattle.session_prover.specs.Stages.{new_answer, answers_behind, answers_in, asked_log, replied_log, AreAskedRounds, Fixes, setup_for, greeting, sums_for, openings_for, Claim, IsLogAt, all_asks, greeted_log, granted_log, rounds_log, fixed_log, challenged_log, opened_log, IsSound}
+use Rattle.zk_model.specs.Frames.{Frame, frame_spelling, AreReplies, grant, replies, challenge, verdict, Allows, FitsGrant}
+use Rattle.session_prover.specs.Stages.{asked_log, replied_log, AreAskedRounds, Fixes, setup_for, greeting, sums_for, openings_for, Claim, IsLogAt, all_asks, greeted_log, granted_log, rounds_log, fixed_log, challenged_log, opened_log, IsSound}
 use Rattle.std.proofs.lemmas.Grind.{flat_map-append}
 use Rattle.session_core.specs.Jobs.{ProverJob}
 use Rattle.std.specs.Prelude.{All, None}
@@ -56,54 +56,6 @@ use Rattle.std.proofs.lemmas.Option.{same_Some}
 use Rattle.session_driver.proofs.Rows.{row_three, row_four}
 use Rattle.zk_model.specs.declared.Expect.TheVariants as expect
 use Rattle.session_driver.proofs.Going.{came_more, came_same}
-
--- The bytes of a log side by side.
-
--- ---- how many answers of the prover's a log has
-
-no_answer : (last : Side) → new_answer last Verifier ≡ 0
-no_answer Prover = refl
-no_answer Verifier = refl
-
--- the verifier's bytes are no answer
-none_heard : (last : Side) (bytes : List ℕ) → answers_behind last (bytes_from Verifier bytes) ≡ 0
-none_heard last [] = refl
-none_heard last (byte ∷ bytes) = let rest = none_heard Verifier bytes in let first = no_answer last in omega (arith, rest, first)
-
--- more of the prover's bytes are none
-none_more : (bytes : List ℕ) → answers_behind Prover (bytes_from Prover bytes) ≡ 0
-none_more [] = refl
-none_more (byte ∷ bytes) = let rest = none_more bytes in omega (arith, rest)
-
-heard_behind : (last : Side) (log : List (Side × ℕ)) (bytes : List ℕ) → answers_behind last (log ++ bytes_from Verifier bytes) ≡ answers_behind last log
-heard_behind last [] bytes = none_heard last bytes
-heard_behind last (entry ∷ log) bytes = ap (λ n. new_answer last entry.0 + n) (heard_behind entry.0 log bytes)
-
--- what the verifier says is no answer
-pub answers_heard : (log : List (Side × ℕ)) (bytes : List ℕ) → answers_in (log ++ bytes_from Verifier bytes) ≡ answers_in log
-answers_heard log bytes = heard_behind Verifier log bytes
-
--- what the prover says after the verifier's bytes is one answer
-pub said_first : (bytes : List ℕ) → 1 ≤ length bytes → answers_behind Verifier (bytes_from Prover bytes) ≡ 1
-said_first [] some = absurd (omega (arith, some))
-said_first (byte ∷ bytes) some = let rest = none_more bytes in omega (arith, rest)
-
-said_behind : (last : Side) (heard said : List ℕ) → 1 ≤ length heard → 1 ≤ length said
-    → answers_behind last (bytes_from Verifier heard ++ bytes_from Prover said) ≡ 1
-said_behind last [] said some more = absurd (omega (arith, some))
-said_behind last (byte ∷ []) said some more = let rest = said_first said more in let first = no_answer last in omega (arith, rest, first)
-said_behind last (byte ∷ other ∷ heard) said some more =
-    let rest = said_behind Verifier (other ∷ heard) said (omega arith) more in let first = no_answer last in omega (arith, rest, first)
-
-pub more_behind : (last : Side) (log : List (Side × ℕ)) (heard said : List ℕ) → 1 ≤ length heard → 1 ≤ length said
-    → answers_behind last ((log ++ bytes_from Verifier heard) ++ bytes_from Prover said) ≡ answers_behind last log + 1
-more_behind last [] heard said some more = said_behind last heard said some more
-more_behind last (entry ∷ log) heard said some more = let rest = more_behind entry.0 log heard said some more in omega (arith, rest)
-
--- every frame has a byte
-pub frame_is_some : (frame : Frame) → 1 ≤ length (frame_spelling frame)
-frame_is_some (hello said) = omega arith
-frame_is_some frame = omega arith
 
 -- What stands next in what a verifier says, where a prover waits; and what an honest prover sends when it is not there.
 

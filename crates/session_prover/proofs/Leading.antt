@@ -9,25 +9,25 @@ use Rattle.zk_model.specs.declared.Side.{Side}
 use Rattle.zk_model.specs.declared.Side.TheVariants.{Prover, Verifier}
 use Rattle.zk_model.specs.declared.Span.{Span}
 use Rattle.claim_store.specs.declared.ClaimFault.{ClaimFault}
-use Rattle.frame_link.specs.Lines.{LineState, LinkSnapshot}
+use Rattle.frame_link.specs.Lines.{LinkSnapshot}
 use Rattle.frame_link.specs.declared.fault.LineFault.{LineFault}
 use Rattle.frame_link.proofs.LineLemmas.{none_is_some, frame_most, within_longest}
 use Rattle.proof_frames.specs.Frames.{IsShort}
 use Rattle.session_core.specs.Jobs.{ProverJob, Suits}
 use Rattle.session_core.specs.Cores.{ProverStage, ProverState, ProverAnswers, awaits_grant, awaits_replies, awaits_challenge, awaits_verdict, has_ended, prover_expects}
-use Rattle.session_driver.specs.Runs.{Turn, said, whole_log, sends_of, sends_in, HasPassed, IsTurn, Goes, IsMissing, IsUnsent, TriesRefusal, StopsBy, IsRun}
+use Rattle.session_driver.specs.Runs.{Turn, said, whole_log, IsTurn, Goes}
 use Rattle.session_driver.specs.declared.drive.Outcome.{Outcome}
 use Rattle.session_driver.specs.declared.drive.Outcome.TheVariants.{Done, Refused, Cut}
-use Rattle.session_driver.proofs.Going.{whole_more, sends_more, goes_keeps, came_more, one_more}
+use Rattle.session_driver.proofs.Going.{whole_more, goes_keeps, came_more, one_more}
 use Rattle.session_prover.specs.declared.note.ProverOutcome.{ProverOutcome}
 use Rattle.session_prover.specs.declared.note.ProverOutcome.TheVariants.{Accepted}
 use Rattle.session_prover.specs.Outcomes.{line_outcome}
-use Rattle.session_prover.specs.Stages.{Claim, ClaimedFor, Course, IsLogAt, IsLogTaken, IsLineTaken, answers_in, greeted_log, Claims, Claimed, IsProving, Proved, AnswersClaimed, AnswersBehind, ReadsAcceptance, Stops, claim_of, greeting_frame, outcome_told, proved, proves, proving_expects, IsSound, IsToAnswer, Comes, SendStops, asked_log}
-use Rattle.session_prover.specs.Notes.{IsEnded, granted_of, StopsBehind, IsOutcome, task_of, WaitsFor}
+use Rattle.session_prover.specs.Stages.{Claim, ClaimedFor, IsLogAt, IsLogTaken, greeted_log, Claims, Claimed, IsProving, Proved, AnswersClaimed, AnswersBehind, ReadsAcceptance, Stops, claim_of, greeting_frame, outcome_told, proved, proves, proving_expects, IsSound, IsToAnswer, asked_log}
+use Rattle.session_prover.specs.Notes.{granted_of, StopsBehind, IsOutcome, task_of, HasEnded}
 use Rattle.std.proofs.lemmas.Option.{same_Some}
-use Rattle.session_prover.proofs.Heard.{same_stage, answers_heard, more_behind, said_first, frame_is_some, IsNextFrame, same_bytes_grant, turns_at, next_frame, greeted_heard, granted_heard}
+use Rattle.session_prover.proofs.Heard.{same_stage, IsNextFrame, same_bytes_grant, turns_at, next_frame, greeted_heard, granted_heard}
 use Rattle.session_prover.proofs.Answering.{answer_leads, answer_short, suits_is}
-use Rattle.session_prover.proofs.Ending.{mine, well_of, comes, stops_taking, ends_accepted, ends_rejected, granted_is, grant_taken, ends_ungranted, ends_unclaimed, stops_greeting, stops_sending, some_for, stops_answering, refuses_nothing, none_bad}
+use Rattle.session_prover.proofs.Ending.{well_of, comes, stops_taking, ends_accepted, ends_rejected, granted_is, grant_taken, ends_ungranted, ends_unclaimed, stops_greeting, some_for, stops_answering, refuses_nothing, none_bad, Comes, KeepsDue, keeps_due, kept_log}
 use Rattle.std.proofs.lemmas.List.{take_all}
 use Rattle.session_laws.proofs.Turns.{answered, fewer_answered}
 use Rattle.session_laws.proofs.Sizes.{count_is}
@@ -41,6 +41,7 @@ use Rattle.session_laws.specs.Sessions.{HonestVerdict}
 use Rattle.session_prover.specs.Completing.{HasSpoken, HasHonestPeer, Completes}
 use Rattle.zk_model.specs.declared.Expect.TheVariants as expect
 use Rattle.session_prover.specs.declared.note.ProverOutcome.TheVariants as outcome
+use Rattle.session_driver.specs.Leaving.{GoesWell, Halts, KeepsBack, PartyLeaves, Misses, TriesCode, ComesAt}
 
 -- From a run of a prover's end to how its session ended.
 
@@ -183,21 +184,7 @@ IsClaimAt claims old granted now =
 pub record IsAt {C : Type 0} (claims : Claims C) (old : C) (job : ProverJob) (now : Proved C) (before : List Turn) : Type 0 where
   pub job_is : now.core.job ≡ job
   pub log : IsLogOf now.core.job (claim_of claims now.claimant) now.accepted now.core.stage (whole_log Prover (greeting_frame job ∷ []) before)
-  pub counts : answers_in (whole_log Prover (greeting_frame job ∷ []) before) ≡ sends_in (greeting_frame job ∷ []) before
   pub claim : IsClaimAt claims old now.granted now.claimant
-
--- one turn more is one answer more, if it has frames
-counts_on : (log : List (Side × ℕ)) (turn : Turn)
-    → answers_in ((log ++ bytes_from Verifier (frame_spelling turn.frame)) ++ said Prover turn.answer) ≡ answers_in log + sends_of turn.answer
-counts_on log turn = by_answer turn.answer
-  where
-    front : List (Side × ℕ)
-    front = log ++ bytes_from Verifier (frame_spelling turn.frame)
-
-    by_answer : (answer : List Frame) → answers_in (front ++ said Prover answer) ≡ answers_in log + sends_of answer
-    by_answer [] = ap answers_in (append-nil front) ∙ answers_heard log (frame_spelling turn.frame) ∙ omega arith
-    by_answer (frame ∷ frames) = more_behind Verifier log (frame_spelling turn.frame) (flat_map frame_spelling (frame ∷ frames)) (frame_is_some turn.frame)
-        (omega (arith, frame_is_some frame, length-append (frame_spelling frame) (flat_map frame_spelling frames)))
 
 -- the claimant is asked where a grant is awaited, for the first time
 unclaimed : {C : Type 0} (claims : Claims C) (old now : C) (granted : Option Span) → claims.answer now ≡ None → IsClaimAt claims old granted now
@@ -217,9 +204,6 @@ module _ {C : Type 0} (claims : Claims C) (old : C) (job : ProverJob) (sound : I
     more_on : (log_to ++ bytes_from Verifier (frame_spelling turn.frame)) ++ said Prover turn.answer ≡ log_on
     more_on = whole_more Prover (greeting_frame job ∷ []) before turn
 
-    counted_on : answers_in log_on ≡ sends_in (greeting_frame job ∷ []) (before ++ turn ∷ [])
-    counted_on = ap answers_in (sym more_on) ∙ counts_on log_to turn ∙ omega (arith, at.counts, sends_more (greeting_frame job ∷ []) before turn)
-
     stood_at : (stage : ProverStage) → s.core.stage ≡ stage → IsLogAt s.core.job (claim_of claims s.claimant) stage log_to
     stood_at stage is = subst (λ (q : Bool × ProverStage). IsLogOf s.core.job (claim_of claims s.claimant) q.0 q.1 log_to) (λ i. (accepted i, is i)) at.log
 
@@ -238,7 +222,6 @@ module _ {C : Type 0} (claims : Claims C) (old : C) (job : ProverJob) (sound : I
         record {
           job_is = by.job ∙ at.job_is;
           log = log_stepped (claim_of claims t.claimant) by.accepted (step_claimed claims s t turn.frame turn.answer log_to sound_there waited by);
-          counts = counted_on;
           claim = inr (
             by.given,
             subst (λ c. Claimed claims by.given (Ok (span_of by.given)) c t.claimant) (unclaimed claims old s.claimant s.granted waited.0 at.claim).0 by.claimed,
@@ -256,7 +239,6 @@ module _ {C : Type 0} (claims : Claims C) (old : C) (job : ProverJob) (sound : I
                 (log_stepped claim by.accepted (steps_taken s.core t.core claim s.core.stage turn.frame turn.answer log_to sound_there by.job
                 (log_taken s.core.job claim s.core.stage turn.frame log_to by.behind (stood_at s.core.stage refl)
                 (subst (λ o. IsSomeAnd o (λ p. Allows p turn.frame)) (sym expected) allowed)) by.answers));
-            counts = counted_on;
             claim = subst (λ (q : Option Span × C). IsClaimAt claims old q.0 q.1) (λ i. (sym by.granted i, sym by.claimant i)) at.claim;
           }
 
@@ -276,7 +258,6 @@ module _ {C : Type 0} (claims : Claims C) (old : C) (job : ProverJob) (sound : I
                   ∙ ap (λ a. (log_to ++ bytes_from Verifier (frame_spelling turn.frame)) ++ said Prover a) by.none
                   ∙ append-nil (log_to ++ bytes_from Verifier (frame_spelling turn.frame));
             };
-            counts = counted_on;
             claim = at.claim;
           })
 
@@ -302,7 +283,6 @@ module _ {C : Type 0} (claims : Claims C) (old : C) (job : ProverJob) (sound : I
       (record {
         job_is = refl;
         log = (once, greeted);
-        counts = ap answers_in greeted ∙ said_first (frame_spelling (greeting_frame job)) (frame_is_some (greeting_frame job)) ∙ omega arith;
         claim = inl (refl, refl);
       }) went
     where
@@ -343,44 +323,37 @@ claim_at claims old granted now (inr some) = inr (some.0, Ok (span_of some.0), s
 -- ---- how it ended
 
 module _ {C : Type 0} (claims : Claims C) (old : C) (once : claims.answer old ≡ None) (job : ProverJob) (sound : IsSound job)
-    (new : Proved C) (outcome : Outcome ProverOutcome) (first now : LineState) (side : first.side ≡ Prover)
-    (run : IsRun (proves claims) (greeting_frame job ∷ []) (proved (record { job = job; stage = awaits_grant }) None false old) new outcome first now) where
+    (new : Proved C) (outcome : Outcome ProverOutcome) (first now : LinkSnapshot)
+    (left : PartyLeaves (proves claims) (greeting_frame job ∷ []) Prover (proved (record { job = job; stage = awaits_grant }) None false old) new outcome first now) where
   abbrev mid : Proved C
-  mid = run.mid
+  mid = left.mid
 
   abbrev passed : List (Side × ℕ)
-  passed = whole_log Prover (greeting_frame job ∷ []) run.turns
+  passed = whole_log Prover (greeting_frame job ∷ []) left.turns
 
-  abbrev sent : ℕ
-  sent = sends_in (greeting_frame job ∷ []) run.turns
-
-  at : IsAt claims old job mid run.turns
-  at = stands claims old job sound once mid run.turns run.went
+  at : IsAt claims old job mid left.turns
+  at = stands claims old job sound once mid left.turns left.went
 
   sound_mid : IsSound mid.core.job
   sound_mid = subst IsSound (sym at.job_is) sound
 
-  -- by the claimant as it is then
-  abbrev ended_at : C → Course
-  ended_at claimant = record { first = mine first; claim = claim_of claims claimant }
-
-  -- how the session ended on this line, and what was claimed
-  record IsNoted (told : ProverOutcome) (line : LineState) : Type 0 where
-    ended : IsEnded mid.core.job (ended_at new.claimant) told line
+  -- how the session ended, and what was claimed
+  record IsNoted (told : ProverOutcome) : Type 0 where
+    ended : HasEnded mid.core.job (claim_of claims new.claimant) first told now
     claim : IsClaimTold claims old new.granted new.claimant
 
   -- nothing was claimed since
-  still_noted : (told : ProverOutcome) (line : LineState) → new.claimant ≡ mid.claimant → new.granted ≡ mid.granted
-      → IsEnded mid.core.job (ended_at mid.claimant) told line → IsNoted told line
-  still_noted told line claimant granted ended = record {
-    ended = subst (λ c. IsEnded mid.core.job (ended_at c) told line) (sym claimant) ended;
+  still_noted : (told : ProverOutcome) → new.claimant ≡ mid.claimant → new.granted ≡ mid.granted
+      → HasEnded mid.core.job (claim_of claims mid.claimant) first told now → IsNoted told
+  still_noted told claimant granted ended = record {
+    ended = subst (λ c. HasEnded mid.core.job (claim_of claims c) first told now) (sym claimant) ended;
     claim = subst (λ (q : C × Option Span). IsClaimTold claims old q.1 q.0) (λ i. (sym claimant i, sym granted i))
         (claim_at claims old mid.granted mid.claimant at.claim);
   }
 
   -- where the end is as it was
-  same_noted : (told : ProverOutcome) → new ≡ mid → IsEnded mid.core.job (ended_at mid.claimant) told now → IsNoted told now
-  same_noted told same ended = still_noted told now (ap (λ (s : Proved C). s.claimant) same) (ap (λ (s : Proved C). s.granted) same) ended
+  same_noted : (told : ProverOutcome) → new ≡ mid → HasEnded mid.core.job (claim_of claims mid.claimant) first told now → IsNoted told
+  same_noted told same ended = still_noted told (ap (λ (s : Proved C). s.claimant) same) (ap (λ (s : Proved C). s.granted) same) ended
 
   -- ---- where a frame was expected
 
@@ -402,91 +375,92 @@ module _ {C : Type 0} (claims : Claims C) (old : C) (once : claims.answer old �
     waited : IsLogAt mid.core.job (claim_of claims mid.claimant) mid.core.stage passed
     waited = waited_at mid.core.stage refl
 
-    missed : (f : LineFault) → IsMissing (proves claims) passed sent mid new f (mine first) now → IsNoted (line_outcome f) now
-    missed f missing = same_noted (line_outcome f) missing.same
-        (stops_taking (proves claims) mid.core.job (claim_of claims mid.claimant) mid.core.stage passed sent mid new f first now sound_mid waited expects_so
-        (sym at.counts) missing)
+    missed : (f : LineFault) → Misses (proves claims) Prover passed mid new f first now → IsNoted (line_outcome f)
+    missed f misses = same_noted (line_outcome f) misses.same
+        (stops_taking (proves claims) mid.core.job (claim_of claims mid.claimant) mid.core.stage passed mid new f first now sound_mid waited expects_so misses)
 
-    module _ (frame : Frame) (heard : LineState) (allowed : Allows place frame)
-        (came : HasPassed (passed ++ bytes_from Verifier (frame_spelling frame)) sent (mine first) heard) where
+    module _ (frame : Frame) (allowed : Allows place frame) where
+      abbrev heard : List (Side × ℕ)
+      heard = passed ++ bytes_from Verifier (frame_spelling frame)
+
       allowed_at : (stage : ProverStage) (wanted : Expect) → mid.core.stage ≡ stage → prover_expects mid.core.job stage ≡ Some wanted → Allows wanted frame
       allowed_at stage wanted is wants =
           subst (λ p. Allows p frame) (same_Some place wanted (sym expected ∙ expects_so ∙ ap (prover_expects mid.core.job) is ∙ wants)) allowed
 
-      comes_at : (stage : ProverStage) → mid.core.stage ≡ stage → Comes mid.core.job (ended_at mid.claimant) stage frame heard
-      comes_at stage is = comes mid.core.job (claim_of claims mid.claimant) stage frame passed sent first heard (waited_at stage is) (sym at.counts) came
+      comes_at : (stage : ProverStage) → mid.core.stage ≡ stage → GoesWell Prover heard first now
+          → Comes mid.core.job (claim_of claims mid.claimant) first stage frame now
+      comes_at stage is well = comes mid.core.job (claim_of claims mid.claimant) stage frame passed first now (waited_at stage is) well
 
       -- a grant whose units are claimed is to be answered
       claim_taken : (given : Grant) → mid.core.stage ≡ awaits_grant → frame ≡ grant given → Suits mid.core.job.file.params mid.core.job.statement.program given
           → given.start + given.count ≤ mid.core.job.file.params.total → Claimed claims given (Ok (span_of given)) mid.claimant new.claimant
-          → IsLineTaken mid.core.job (ended_at new.claimant) awaits_grant frame heard
-      claim_taken given waits is suits within claimed = record {
-        log = subst (IsLogTaken mid.core.job (claim_of claims new.claimant) awaits_grant frame) (sym came.logged)
-            (grant_log_taken mid.core.job (claim_of claims new.claimant) frame given passed (waited_at awaits_grant waits).1 is suits within
-            (claimed_for claims given mid.claimant new.claimant claimed));
-        well = (comes_at awaits_grant waits).well;
-      }
+          → now.log ≡ heard → IsLogTaken mid.core.job (claim_of claims new.claimant) awaits_grant frame now.log
+      claim_taken given waits is suits within claimed logged =
+          subst (IsLogTaken mid.core.job (claim_of claims new.claimant) awaits_grant frame) (sym logged)
+          (grant_log_taken mid.core.job (claim_of claims new.claimant) frame given passed (waited_at awaits_grant waits).1 is suits within
+          (claimed_for claims given mid.claimant new.claimant claimed))
 
       -- so are replies, or the challenge
-      behind_taken : IsToAnswer mid.core.stage → IsLineTaken mid.core.job (ended_at mid.claimant) mid.core.stage frame heard
-      behind_taken behind = record {
-        log = subst (IsLogTaken mid.core.job (claim_of claims mid.claimant) mid.core.stage frame) (sym came.logged)
-            (log_taken mid.core.job (claim_of claims mid.claimant) mid.core.stage frame passed behind waited
-            (subst (λ o. IsSomeAnd o (λ p. Allows p frame)) (sym expected ∙ expects_so) allowed));
-        well = (comes_at mid.core.stage refl).well;
-      }
+      behind_taken : IsToAnswer mid.core.stage → now.log ≡ heard → IsLogTaken mid.core.job (claim_of claims mid.claimant) mid.core.stage frame now.log
+      behind_taken behind logged =
+          subst (IsLogTaken mid.core.job (claim_of claims mid.claimant) mid.core.stage frame) (sym logged)
+          (log_taken mid.core.job (claim_of claims mid.claimant) mid.core.stage frame passed behind waited
+          (subst (λ o. IsSomeAnd o (λ p. Allows p frame)) (sym expected ∙ expects_so) allowed))
 
       -- the claimant was asked
-      asked_noted : (told : ProverOutcome) (line : LineState) (given : Grant) (answer : Result Span ClaimFault) → mid.core.stage ≡ awaits_grant
+      asked_noted : (told : ProverOutcome) (given : Grant) (answer : Result Span ClaimFault) → mid.core.stage ≡ awaits_grant
           → Claimed claims given answer mid.claimant new.claimant → (mid.granted ≡ None → new.granted ≡ granted_of (Some answer))
-          → IsEnded mid.core.job (ended_at new.claimant) told line → IsNoted told line
-      asked_noted told line given answer waits claimed granted ended =
+          → HasEnded mid.core.job (claim_of claims new.claimant) first told now → IsNoted told
+      asked_noted told given answer waits claimed granted ended =
           let none = unclaimed claims old mid.claimant mid.granted (waited_at awaits_grant waits).0 at.claim in
           record {
             ended = ended;
             claim = inr (given, answer, subst (λ c. Claimed claims given answer c new.claimant) none.0 claimed, granted none.1);
           }
 
-      stopped : (told : ProverOutcome) → Stops claims mid frame told new → IsNoted told heard
-      stopped told (inl by) = still_noted told heard by.claimant by.granted
-          (ends_ungranted mid.core.job (ended_at mid.claimant) frame told heard sound_mid (comes_at awaits_grant by.waits)
+      stopped : (told : ProverOutcome) → Stops claims mid frame told new → GoesWell Prover heard first now → IsNoted told
+      stopped told (inl by) well = still_noted told by.claimant by.granted
+          (ends_ungranted mid.core.job (claim_of claims mid.claimant) first frame told now sound_mid (comes_at awaits_grant by.waits well)
           (allowed_at awaits_grant expect.Grant by.waits refl) by.is)
-      stopped told (inr (inl by)) =
-          asked_noted told heard by.given (Err by.fault) by.waits by.claimed (λ none. by.granted ∙ none)
-          (subst (λ o. IsEnded mid.core.job (ended_at new.claimant) o heard) (sym by.outcome_is)
-          (ends_unclaimed mid.core.job (ended_at new.claimant) by.given by.fault heard sound_mid by.suits
-          (grant_taken mid.core.job (ended_at mid.claimant) frame by.given heard (comes_at awaits_grant by.waits)
+      stopped told (inr (inl by)) well =
+          asked_noted told by.given (Err by.fault) by.waits by.claimed (λ none. by.granted ∙ none)
+          (subst (λ o. HasEnded mid.core.job (claim_of claims new.claimant) first o now) (sym by.outcome_is)
+          (ends_unclaimed mid.core.job (claim_of claims new.claimant) first by.given by.fault now sound_mid by.suits
+          (grant_taken mid.core.job (claim_of claims mid.claimant) first frame by.given now (comes_at awaits_grant by.waits well)
           (allowed_at awaits_grant expect.Grant by.waits refl) by.is)
           (record { asked = by.claimed.asked; answer = by.claimed.told })))
-      stopped told (inr (inr (inl by))) =
-          asked_noted told heard by.given (Ok (span_of by.given)) by.waits by.claimed (λ _. by.granted)
-          (subst (λ o. IsEnded mid.core.job (ended_at new.claimant) o heard) (sym by.outcome_is)
-          (refuses_nothing mid.core.job (ended_at new.claimant) awaits_grant frame by.fault heard sound_mid
-          (claim_taken by.given by.waits by.is by.suits by.within by.claimed) by.refuses))
-      stopped told (inr (inr (inr (inl by)))) = still_noted told heard by.claimant by.granted
-          (subst (λ o. IsEnded mid.core.job (ended_at mid.claimant) o heard) (sym by.outcome_is)
-          (refuses_nothing mid.core.job (ended_at mid.claimant) mid.core.stage frame by.fault heard sound_mid (behind_taken by.behind) by.refuses))
-      stopped told (inr (inr (inr (inr by)))) = still_noted told heard by.claimant by.granted
-          (ends_rejected mid.core.job (ended_at mid.claimant) frame told heard sound_mid (comes_at awaits_verdict by.waits)
+      stopped told (inr (inr (inl by))) well =
+          asked_noted told by.given (Ok (span_of by.given)) by.waits by.claimed (λ _. by.granted)
+          (subst (λ o. HasEnded mid.core.job (claim_of claims new.claimant) first o now) (sym by.outcome_is)
+          (refuses_nothing mid.core.job (claim_of claims new.claimant) first awaits_grant frame by.fault now sound_mid
+          (claim_taken by.given by.waits by.is by.suits by.within by.claimed well.logged) (comes_at awaits_grant by.waits well).well by.refuses))
+      stopped told (inr (inr (inr (inl by)))) well = still_noted told by.claimant by.granted
+          (subst (λ o. HasEnded mid.core.job (claim_of claims mid.claimant) first o now) (sym by.outcome_is)
+          (refuses_nothing mid.core.job (claim_of claims mid.claimant) first mid.core.stage frame by.fault now sound_mid (behind_taken by.behind well.logged)
+          (comes_at mid.core.stage refl well).well by.refuses))
+      stopped told (inr (inr (inr (inr by)))) well = still_noted told by.claimant by.granted
+          (ends_rejected mid.core.job (claim_of claims mid.claimant) first frame told now sound_mid (comes_at awaits_verdict by.waits well)
           (allowed_at awaits_verdict expect.Verdict by.waits refl) by.is)
 
-      unanswered : (answer : List Frame) (f : LineFault) → IsUnsent None answer f heard now
+      unanswered : (answer : List Frame) (f : LineFault) → 1 ≤ length answer
+          → KeepsBack None Prover heard (flat_map frame_spelling answer) f first now
           → AnswersClaimed claims mid frame answer new ⊎ AnswersBehind mid frame answer new ⊎ ReadsAcceptance mid frame answer new
-          → IsNoted (line_outcome f) now
-      unanswered answer f unsent (inl by) =
-          asked_noted (line_outcome f) now by.given (Ok (span_of by.given)) by.waits by.claimed (λ _. by.granted)
-          (stops_answering mid.core.job (ended_at new.claimant) awaits_grant frame answer new.core.stage f heard now sound_mid
-          (claim_taken by.given by.waits by.is by.suits by.within by.claimed) by.answers
-          (some_for f (length answer) unsent.at_least_one) (stops_sending answer f heard now unsent))
-      unanswered answer f unsent (inr (inl by)) = still_noted (line_outcome f) now by.claimant by.granted
-          (stops_answering mid.core.job (ended_at mid.claimant) mid.core.stage frame answer new.core.stage f heard now sound_mid (behind_taken by.behind)
-          by.answers (some_for f (length answer) unsent.at_least_one) (stops_sending answer f heard now unsent))
-      unanswered answer f unsent (inr (inr by)) = absurd (omega (arith, unsent.at_least_one, ap length by.none))
+          → IsNoted (line_outcome f)
+      unanswered answer f some kept (inl by) =
+          asked_noted (line_outcome f) by.given (Ok (span_of by.given)) by.waits by.claimed (λ _. by.granted)
+          (stops_answering mid.core.job (claim_of claims new.claimant) first awaits_grant frame answer new.core.stage f now sound_mid
+          (claim_taken by.given by.waits by.is by.suits by.within by.claimed (kept_log heard (flat_map frame_spelling answer) f first now kept)) by.answers
+          (some_for f (length answer) some) (keeps_due heard (flat_map frame_spelling answer) f first now kept))
+      unanswered answer f some kept (inr (inl by)) = still_noted (line_outcome f) by.claimant by.granted
+          (stops_answering mid.core.job (claim_of claims mid.claimant) first mid.core.stage frame answer new.core.stage f now sound_mid
+          (behind_taken by.behind (kept_log heard (flat_map frame_spelling answer) f first now kept))
+          by.answers (some_for f (length answer) some) (keeps_due heard (flat_map frame_spelling answer) f first now kept))
+      unanswered answer f some kept (inr (inr by)) = absurd (omega (arith, some, ap length by.none))
 
   -- ---- a verdict was read that every check holds, and nothing more is expected
 
-  over : proving_expects mid.accepted mid.core ≡ None → HasPassed passed sent (mine first) now → IsEnded mid.core.job (ended_at mid.claimant) Accepted now
-  over none came = by_accepted mid.accepted refl
+  over : proving_expects mid.accepted mid.core ≡ None → GoesWell Prover passed first now → HasEnded mid.core.job (claim_of claims mid.claimant) first Accepted now
+  over none well = by_accepted mid.accepted refl
     where
       -- the prover has not ended otherwise
       some_expected : (stage : ProverStage) → IsLogAt mid.core.job (claim_of claims mid.claimant) stage passed → prover_expects mid.core.job stage ≡ None → ⊥
@@ -496,53 +470,46 @@ module _ {C : Type 0} (claims : Claims C) (old : C) (once : claims.answer old �
       log_as : (b : Bool) → mid.accepted ≡ b → IsLogOf mid.core.job (claim_of claims mid.claimant) b mid.core.stage passed
       log_as b is = subst (λ (a : Bool). IsLogOf mid.core.job (claim_of claims mid.claimant) a mid.core.stage passed) is at.log
 
-      by_accepted : (b : Bool) → mid.accepted ≡ b → IsEnded mid.core.job (ended_at mid.claimant) Accepted now
+      by_accepted : (b : Bool) → mid.accepted ≡ b → HasEnded mid.core.job (claim_of claims mid.claimant) first Accepted now
       by_accepted false accepted = absurd (some_expected mid.core.stage (log_as false accepted)
           (ap (λ (b : Bool). proving_expects b mid.core) (sym accepted) ∙ none))
       by_accepted true accepted =
           let read : IsRead mid.core.job (claim_of claims mid.claimant) passed = log_as true accepted in
-          ends_accepted mid.core.job (ended_at mid.claimant) read.frame read.number now sound_mid
+          ends_accepted mid.core.job (claim_of claims mid.claimant) first read.frame read.number now sound_mid
           (record {
             before = read.before;
             waited = read.waited;
-            logged = came.logged ∙ read.logged;
-            well = well_of passed sent first now (sym at.counts) came;
+            logged = well.logged ∙ read.logged;
+            well = well_of passed first now well;
           })
           read.allowed read.is
 
   -- ---- all together
 
-  noted : (o : Outcome ProverOutcome) → StopsBy (proves claims) (greeting_frame job ∷ []) run.turns mid new o (mine first) now
-      → IsNoted (outcome_told o) now
+  noted : (o : Outcome ProverOutcome) → Halts (proves claims) (greeting_frame job ∷ []) Prover left.turns mid new o first now → IsNoted (outcome_told o)
   noted Done stop = same_noted Accepted stop.same
-      (over (sym (ap (λ (s : Proved C). proving_expects s.accepted s.core) stop.same) ∙ stop.expected) stop.passed)
+      (over (sym (ap (λ (s : Proved C). proving_expects s.accepted s.core) stop.same) ∙ stop.expected) stop.well)
   noted (Refused fault) stop =
-      let still : now ≡ stop.heard = subst (λ c. TriesRefusal c stop.heard now) stop.refused.0 stop.tried in
-      subst (IsNoted fault) (sym still) (stopped stop.place stop.expected stop.frame stop.heard stop.allowed stop.passed fault stop.refused.1)
-  noted (Cut f) (inl missing) = missed missing.place missing.expected f missing
+      stopped stop.place stop.expected stop.frame stop.allowed fault stop.refused.1
+      (subst (λ c. TriesCode Prover (passed ++ bytes_from Verifier (frame_spelling stop.frame)) c first now) stop.refused.0 stop.tried)
+  noted (Cut f) (inl misses) = missed misses.place misses.expected f misses
   noted (Cut f) (inr (inl stop)) =
-      unanswered stop.is.place stop.is.expected stop.turn.frame stop.heard stop.is.allowed stop.passed stop.turn.answer f stop.unsent stop.is.answered
+      unanswered stop.is.place stop.is.expected stop.turn.frame stop.is.allowed stop.turn.answer f stop.some stop.kept stop.is.answered
   noted (Cut f) (inr (inr stop)) =
       let start : mid ≡ proved (record { job = job; stage = awaits_grant }) None false old =
-      subst (λ (l : List Turn). Goes (proves claims) (proved (record { job = job; stage = awaits_grant }) None false old) l mid) stop.none run.went in
+      subst (λ (l : List Turn). Goes (proves claims) (proved (record { job = job; stage = awaits_grant }) None false old) l mid) stop.none left.went in
       same_noted (line_outcome f) stop.same
-      (subst (λ (q : ProverJob × C). IsEnded q.0 (ended_at q.1) (line_outcome f) now) (λ i. (sym at.job_is i, sym (ap (λ (s : Proved C). s.claimant) start) i))
-      (stops_greeting job (claim_of claims old) f first now sound once stop.fresh
-      (subst (λ b. SendStops b f (mine first) now) (append-nil (frame_spelling (greeting_frame job)))
-      (stops_sending (greeting_frame job ∷ []) f (mine first) now stop.unsent))))
+      (subst (λ (q : ProverJob × C). HasEnded q.0 (claim_of claims q.1) first (line_outcome f) now) (λ i. (sym at.job_is i, sym (ap (λ (s : Proved C). s.claimant) start) i))
+      (stops_greeting job (claim_of claims old) first f now sound once
+      (kept_log [] (flat_map frame_spelling (greeting_frame job ∷ [])) f first now stop.kept)
+      (subst (λ b. KeepsDue b f first now) (append-nil (frame_spelling (greeting_frame job)))
+      (keeps_due [] (flat_map frame_spelling (greeting_frame job ∷ [])) f first now stop.kept))))
 
-  all_noted : IsNoted (outcome_told outcome) now
-  all_noted = noted outcome
-      (subst (λ (f : LineState). StopsBy (proves claims) (greeting_frame job ∷ []) run.turns mid new outcome f now)
-      (λ i. record first { side = side i }) run.stops)
-
-  pub session_ended : IsEnded job (record { first = first; claim = claim_of claims new.claimant }) (outcome_told outcome) now
-  session_ended =
-      subst (λ (q : ProverJob × LineState). IsEnded q.0 (record { first = q.1; claim = claim_of claims new.claimant }) (outcome_told outcome) now)
-      (λ i. (at.job_is i, record first { side = sym side i })) all_noted.ended
+  pub session_ended : HasEnded job (claim_of claims new.claimant) first (outcome_told outcome) now
+  session_ended = subst (λ (j : ProverJob). HasEnded j (claim_of claims new.claimant) first (outcome_told outcome) now) at.job_is (noted outcome left.halts).ended
 
   pub claim_ended : ClaimEnds claims old new.granted new.claimant
-  claim_ended = claim_ends claims old new.granted new.claimant once all_noted.claim
+  claim_ended = claim_ends claims old new.granted new.claimant once (noted outcome left.halts).claim
 
 -- With an honest verifier no other outcome is left.
 
@@ -594,36 +561,36 @@ few_turns job awaits_grant = omega arith
 few_turns job stage = omega arith
 
 -- where the prover waits, what the verifier says goes on with a frame of the place
-said_next : (job : ProverJob) (claim : Claim) (awaited : Expect) (before log : List (Side × ℕ)) (rest inputs : List ℕ) → IsSound job
-    → (said : IsSaid job (sent_by Verifier log)) → log ≡ before ++ bytes_from Verifier rest → WaitsFor job claim before awaited
-    → IsNextFrame awaited (rest ++ said.more)
-said_next job claim awaited before log rest inputs sound said logged waits =
+said_next : (job : ProverJob) (claim : Claim) (stage : ProverStage) (log : List (Side × ℕ)) (inputs : List ℕ) → IsSound job
+    → (said : IsSaid job (sent_by Verifier log)) → (comes : ComesAt (IsLogAt job claim) (prover_expects job) Verifier stage log)
+    → IsNextFrame comes.place (comes.rest ++ said.more)
+said_next job claim stage log inputs sound said comes =
     let ts : List (List ℕ × List ℕ) = session_turns said.t in
-    let later = fewer_answered (suc (turns_at job waits.stage)) (length ts) ts
-    (omega (arith, few_turns job waits.stage, count_is job.file.params job.statement.program said.t said.is)) in
-    next_frame job claim waits.stage awaited before (rest ++ said.more) inputs sound waits.waited waits.expected (record {
+    let later = fewer_answered (suc (turns_at job stage)) (length ts) ts
+    (omega (arith, few_turns job stage, count_is job.file.params job.statement.program said.t said.is)) in
+    next_frame job claim stage comes.place comes.before (comes.rest ++ said.more) inputs sound comes.waited comes.expected (record {
       u = said.t;
       is = said.is;
       more = later.0;
-      begun = sym (append_assoc (sent_by Verifier before) rest said.more)
-          ∙ ap (λ l. l ++ said.more) (sym (came_more Prover before rest) ∙ ap (sent_by Verifier) (sym logged)) ∙ sym said.begun
+      begun = sym (append_assoc (sent_by Verifier comes.before) comes.rest said.more)
+          ∙ ap (λ l. l ++ said.more) (sym (came_more Prover comes.before comes.rest) ∙ ap (sent_by Verifier) (sym comes.logged)) ∙ sym said.begun
           ∙ ap (λ turns. answered turns) (sym (take_all (length ts) ts (omega arith))) ∙ later.1;
     })
 
 -- ---- outcomes that are left out
 
 -- no byte is bad
-no_bad : (job : ProverJob) (claim : Claim) (log : List (Side × ℕ)) (n : ℕ) → IsSound job → IsSaid job (sent_by Verifier log)
-    → (stops : StopsBehind job claim log (λ awaited rest. IsFirstBad awaited rest n)) → ⊥
-no_bad job claim log n sound said stops =
-    let next = said_next job claim stops.expect stops.before log stops.rest [] sound said stops.logged stops.waits in
-    none_bad stops.expect next.frame stops.rest said.more next.tail n next.allowed (omega (arith, within_longest stops.expect stops.rest stops.few, next.long)) next.begun stops.cause
+no_bad : (job : ProverJob) (claim : Claim) (log : List (Side × ℕ)) (n : ℕ) {P : Expect → List ℕ → Type 0} → IsSound job → IsSaid job (sent_by Verifier log)
+    → (stops : StopsBehind job claim log P) → IsFirstBad stops.place stops.rest n → ⊥
+no_bad job claim log n sound said stops bad =
+    let next = said_next job claim stops.stage log [] sound said stops.comes in
+    none_bad stops.place next.frame stops.rest said.more next.tail n next.allowed (omega (arith, within_longest stops.place stops.rest stops.few, next.long)) next.begun bad
 
 -- and the verifier has not said all where a frame is wanted
-no_end : (job : ProverJob) (claim : Claim) (log : List (Side × ℕ)) → IsSound job → (said : IsSaid job (sent_by Verifier log)) → said.more ≡ []
-    → (stops : StopsBehind job claim log (λ awaited rest. length rest < frame_length awaited rest)) → ⊥
-no_end job claim log sound said all stops =
-    let next = said_next job claim stops.expect stops.before log stops.rest [] sound said stops.logged stops.waits in
+no_end : (job : ProverJob) (claim : Claim) (log : List (Side × ℕ)) {P : Expect → List ℕ → Type 0} → IsSound job → (said : IsSaid job (sent_by Verifier log))
+    → said.more ≡ [] → (stops : StopsBehind job claim log P) → length stops.rest < frame_length stops.place stops.rest → ⊥
+no_end job claim log sound said all stops short =
+    let next = said_next job claim stops.stage log [] sound said stops.comes in
     absurd (omega (
       arith,
       ap length next.begun,
@@ -631,8 +598,8 @@ no_end job claim log sound said all stops =
       ap length all,
       length-append (frame_spelling next.frame) next.tail,
       next.long,
-      frame_most stops.expect stops.rest,
-      stops.cause,
+      frame_most stops.place stops.rest,
+      short,
     ))
 
 -- ---- all together
@@ -645,10 +612,10 @@ completes job claim log first now (outcome.Rejected code number) law sound (bad,
     (reads.honest inputs peer.wires peer.witness) reads.in_order.bytes peer.honest in
     absurd (omega (arith, session.served.judged.said.code, reads.code_is, bad))
 completes job claim log first now (outcome.PeerEnded at) law sound (stops, count, ended, nothing) inputs verifier peer free calm =
-    let all = all_said job inputs verifier log peer.counterparts (peer.ended tt) in
-    absurd (no_end job claim log sound all.0 all.1 (record { behind = stops.behind; cause = stops.cause.1 }))
+    let all = all_said job inputs verifier log peer.counterparts (peer.ended at refl) in
+    absurd (no_end job claim log sound all.0 all.1 stops stops.cause.1)
 completes job claim log first now (outcome.BadFrame at) law sound (n, stops) inputs verifier peer free calm =
-    absurd (no_bad job claim log n sound (is_said job inputs verifier (outcome.BadFrame at) log peer) (record { behind = stops.behind; cause = stops.cause.0 }))
+    absurd (no_bad job claim log n sound (is_said job inputs verifier (outcome.BadFrame at) log peer) stops stops.cause.0)
 completes job claim log first now outcome.BadGrant law sound (given, fits, unsuited, logged) inputs verifier peer free calm =
     let said = is_said job inputs verifier outcome.BadGrant log peer in
     absurd (unsuited (suits_is job.file.params job.statement.program given

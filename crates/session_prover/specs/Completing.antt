@@ -18,11 +18,6 @@ use Rattle.session_prover.specs.Stages.{Claim}
 use Rattle.session_prover.specs.declared.note.ProverOutcome.{ProverOutcome}
 use Rattle.session_prover.specs.declared.note.ProverOutcome.TheVariants.{Accepted, PeerEnded, NoMemory}
 
--- the peer ended
-abbrev pub IsPeerEnd : ProverOutcome → Type 0
-IsPeerEnd (PeerEnded at) = Unit {0}
-IsPeerEnd outcome = ⊥
-
 -- what came from the verifier is all that it says in a session that it serves, up to its verdict
 pub record HasSpoken (verifier : VerifierTask) (log : List (Side × ℕ)) : Type 0 where
   pub t : Transcript
@@ -44,7 +39,7 @@ pub record HasHonestPeer
   pub witness : IsWitness job.statement inputs wires job.given
   pub claims : GivesClaims (task_of job inputs)
   pub honest : IsFromHonestVerifier verifier log
-  pub ended : IsPeerEnd outcome → HasSpoken verifier log
+  pub ended : (at : ℕ) → outcome ≡ PeerEnded at → HasSpoken verifier log
 
 -- with an honest peer, where no claim was refused and the link's count did not rise, the session is accepted, unless memory was missing
 abbrev pub Completes : ProverJob → Claim → List (Side × ℕ) → LinkSnapshot → LinkSnapshot → ProverOutcome

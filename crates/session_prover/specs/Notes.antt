@@ -15,16 +15,18 @@ use Rattle.zk_model.specs.declared.Side.{Side}
 use Rattle.zk_model.specs.declared.Side.TheVariants.{Prover, Verifier}
 use Rattle.zk_model.specs.declared.Span.{Span}
 use Rattle.zk_port.specs.Counts.{Rose, counted}
-use Rattle.zk_port.specs.Logs.{appended, put_before}
+use Rattle.zk_port.specs.Logs.{appended}
 use Rattle.claim_store.specs.declared.ClaimFault.{ClaimFault}
 use Rattle.claim_store.specs.declared.ClaimFault.TheVariants as refusal
-use Rattle.frame_link.specs.Lines.{LineState, LinkSnapshot, IsCutShort, IsWithinFrame, counted_times, snapshot_of}
+use Rattle.frame_link.specs.Lines.{LinkSnapshot, IsCutShort, counted_times}
 use Rattle.session_core.specs.Jobs.{ProverJob, Suits}
 use Rattle.session_core.specs.Cores.{ProverStage, ProverAnswers, prover_expects}
 use Rattle.session_prover.specs.Outcomes.{claim_outcome, verdict_outcome}
-use Rattle.session_prover.specs.Stages.{answers_in, Claim, ClaimedFor, RefusedFor, Course, AreAskedRounds, greeting, all_asks, greeted_log, granted_log, fixed_log, setup_for, IsLogAt, IsLogTaken}
+use Rattle.session_prover.specs.Stages.{Claim, ClaimedFor, RefusedFor, AreAskedRounds, greeting, all_asks, greeted_log, granted_log, fixed_log, setup_for, IsLogAt, IsLogTaken}
 use Rattle.session_prover.specs.declared.note.ProverOutcome.{ProverOutcome}
 use Rattle.session_prover.specs.declared.note.ProverOutcome.TheVariants.{Accepted, Rejected, PeerEnded, BadFrame, BadGrant, PeerRefused, Broken, OutOfRange, Overlap, Full, Device, Link, NoMemory}
+use Rattle.session_driver.specs.Leaving.{RefusesSends, ComesAt}
+use Rattle.session_driver.specs.Runs.{answers_in}
 
 -- what a prover with these inputs has
 abbrev pub task_of : ProverJob → List ℕ → ProverTask
@@ -75,31 +77,16 @@ pub record ReadsVerdict (job : ProverJob) (log : List (Side × ℕ)) (code numbe
   pub code_is : t.code ≡ code
   pub number_is : t.number ≡ number
 
--- where this is logged, the prover waits for a frame of this place
-pub record WaitsFor (job : ProverJob) (claim : Claim) (before : List (Side × ℕ)) (expect : Expect) : Type 0 where
-  pub stage : ProverStage
-  pub waited : IsLogAt job claim stage before
-  pub expected : prover_expects job stage ≡ Some expect
-
--- after what is logged where the prover waited, bytes came of the frame that it expected, and none past it
-pub record ComesBehind (job : ProverJob) (claim : Claim) (log : List (Side × ℕ)) : Type 0 where
-  pub before : List (Side × ℕ)
-  pub expect : Expect
-  pub waits : WaitsFor job claim before expect
-  pub open waits use *
-  pub rest : List ℕ
-  pub few : IsWithinFrame expect rest
-  pub logged : log ≡ before ++ bytes_from Verifier rest
-
--- and this holds of the frame that was expected and of those bytes
+-- after what is logged where the prover waited, bytes came of the frame that it expected, and none past it; and this holds of both
 pub record StopsBehind
     (job : ProverJob)
     (claim : Claim)
     (log : List (Side × ℕ))
     (P : Expect → List ℕ → Type 0) : Type 0 where
-  pub behind : ComesBehind job claim log
-  pub open behind use *
-  pub cause : P expect rest
+  pub stage : ProverStage
+  pub comes : ComesAt (IsLogAt job claim) (prover_expects job) Verifier stage log
+  pub open comes use *
+  pub cause : P place rest
 
 -- the claimant refused the units of the grant that was read
 abbrev pub IsClaimRefused : ProverJob → Claim → List (Side × ℕ) → ClaimFault → Type 0
@@ -124,19 +111,14 @@ IsAnswerDue job claim least log = ((claim.answer ≡ None) × (log ≡ [])) ⊎ 
 -- of which none was refused; or in the one send of an answer that was due.
 abbrev pub FailsLink : ProverJob → Claim → List (Side × ℕ) → LinkSnapshot → LinkSnapshot → Type 0
 FailsLink job claim log first now =
-    (StopsBehind job claim log IsCutShort × (now.sends ≡ counted_times (answers_in log) first.sends)
+    (StopsBehind job claim log IsCutShort × (now.sends ≡ counted_times (answers_in Prover log) first.sends)
     × (now.refused_sends ≡ first.refused_sends))
-    ⊎ (IsAnswerDue job claim 1 log × (now.sends ≡ counted_times (answers_in log + 1) first.sends)
+    ⊎ (IsAnswerDue job claim 1 log × (now.sends ≡ counted_times (answers_in Prover log + 1) first.sends)
     × (now.refused_sends ≡ counted true first.refused_sends))
-
--- where memory was missing: for a frame of which bytes are missing, for an answer that was due, or for the claim
-abbrev pub LacksMemory : ProverJob → Claim → List (Side × ℕ) → Type 0
-LacksMemory job claim log =
-    StopsBehind job claim log IsCutShort ⊎ (IsAnswerDue job claim 0 log ⊎ IsClaimRefused job claim log refusal.NoMemory)
 
 -- Why a session ended so. A verdict, a refusal or a grant was read; the peer has ended, with bytes still wanted, when so many
 -- bytes had come; a byte at this place of all that came is the first bad one; the claimant refused; the link failed, or memory
--- was missing, where a frame or an answer was due.
+-- was missing, where a frame or an answer was due; or it was missing for the claim.
 abbrev pub IsOutcome : ProverJob → Claim → List (Side × ℕ) → LinkSnapshot → LinkSnapshot → ProverOutcome
     → Type 0
 IsOutcome job claim log first now Accepted = (number : ℕ) × ReadsVerdict job log 0 number
@@ -159,23 +141,13 @@ IsOutcome job claim log first now (Overlap earlier) = IsClaimRefused job claim l
 IsOutcome job claim log first now (Full slots) = IsClaimRefused job claim log (refusal.Full slots)
 IsOutcome job claim log first now Device = IsClaimRefused job claim log refusal.Device
 IsOutcome job claim log first now Link = Rose first.faults now.faults × FailsLink job claim log first now
-IsOutcome job claim log first now NoMemory = LacksMemory job claim log
-
--- the link did not fail, and memory was not missing
-abbrev pub IsNoFault : ProverOutcome → Type 0
-IsNoFault Link = ⊥
-IsNoFault NoMemory = ⊥
-IsNoFault outcome = Unit {0}
-
--- the link did not fail
-abbrev pub IsNoLink : ProverOutcome → Type 0
-IsNoLink Link = ⊥
-IsNoLink outcome = Unit {0}
+IsOutcome job claim log first now NoMemory =
+    StopsBehind job claim log IsCutShort ⊎ (IsAnswerDue job claim 0 log ⊎ IsClaimRefused job claim log refusal.NoMemory)
 
 -- the count of faults does not fall, and rises only where the link failed
 pub record CountsOutcome (outcome : ProverOutcome) (before after : ℕ) : Type 0 where
   pub later : before ≤ after
-  pub unfailed : IsNoLink outcome → after ≡ before
+  pub unfailed : ¬ (outcome ≡ Link) → after ≡ before
 
 -- A verdict that was read is answered: where the log is that of a whole session in order about the job's statement, the outcome is
 -- what its verdict says.
@@ -207,8 +179,8 @@ IsFault outcome = ⊥
 -- memory was missing.
 abbrev pub SendsEach : ProverOutcome → List (Side × ℕ) → LinkSnapshot → LinkSnapshot → Type 0
 SendsEach outcome log first now =
-    ((now.sends ≡ counted_times (answers_in log) first.sends) × (now.refused_sends ≡ first.refused_sends))
-    ⊎ (IsFault outcome × (now.sends ≡ counted_times (answers_in log + 1) first.sends)
+    ((now.sends ≡ counted_times (answers_in Prover log) first.sends) × (now.refused_sends ≡ first.refused_sends))
+    ⊎ (IsFault outcome × (now.sends ≡ counted_times (answers_in Prover log + 1) first.sends)
     × (now.refused_sends ≡ counted true first.refused_sends))
 
 -- What was sent of a log in a session that ended so, by an honest prover for what it received: all of it; the greeting alone
@@ -230,12 +202,6 @@ abbrev pub SendsHonestly : ProverJob → List (Side × ℕ) → ProverOutcome �
 SendsHonestly job log outcome = (inputs wires : List ℕ) → IsWitness job.statement inputs wires job.given
     → IsSentFor (task_of job inputs) (greeting job) log outcome
 
--- No send was refused, and nothing is told beside the log; or one was, where the link failed or memory was missing.
-abbrev pub RefusesSends : ProverOutcome → List ℕ → LinkSnapshot → LinkSnapshot → Type 0
-RefusesSends outcome part first now =
-    ((part ≡ []) × (now.refused_sends ≡ first.refused_sends))
-    ⊎ (IsFault outcome × (now.refused_sends ≡ counted true first.refused_sends))
-
 -- What the link tells is what it told before and the log; where a send was refused, a first part of one answer more, which an
 -- honest prover would send too, and none before the units are claimed.
 pub record IsLogged
@@ -246,8 +212,7 @@ pub record IsLogged
     (first now : LinkSnapshot) : Type 0 where
   pub part : List ℕ
   pub told : now.told ≡ appended (log ++ bytes_from Prover part) first.told
-  pub none : IsNoFault outcome → part ≡ []
-  pub refused : RefusesSends outcome part first now
+  pub refused : RefusesSends (IsFault outcome) part first now
   pub honest : (inputs wires : List ℕ) → IsWitness job.statement inputs wires job.given
       → IsFromHonestProver (task_of job inputs) (log ++ bytes_from Prover part)
   pub claimed : SendsOnceClaimed job claim (log ++ bytes_from Prover part)
@@ -285,7 +250,7 @@ IsRelated job log = SendsNoCorrections job log ⊎ SendsCorrections job log
 -- ---- all together
 
 -- a session that ended so
-pub record HasEnded (job : ProverJob) (claim : Claim) (outcome : ProverOutcome) (first now : LinkSnapshot) : Type 0 where
+pub record HasEnded (job : ProverJob) (claim : Claim) (first : LinkSnapshot) (outcome : ProverOutcome) (now : LinkSnapshot) : Type 0 where
   pub outcome_is : IsOutcome job claim now.log first now outcome
   pub asked : IsAskedRight job claim now.log
   pub honest : SendsHonestly job now.log outcome
@@ -295,10 +260,4 @@ pub record HasEnded (job : ProverJob) (claim : Claim) (outcome : ProverOutcome) 
   pub verdict : AnswersVerdict job outcome now.log
   pub sends : SendsEach outcome now.log first now
   pub logged : IsLogged job claim outcome now.log first now
-  pub came : first.to_come ≡ put_before (sent_by Verifier now.log) now.to_come
-  pub receives : now.receives ≤ first.receives + length (sent_by Verifier now.log) + 1
   pub count : CountsOutcome outcome first.faults now.faults
-
--- over a line
-abbrev pub IsEnded : ProverJob → Course → ProverOutcome → LineState → Type 0
-IsEnded job course outcome now = HasEnded job course.claim outcome (snapshot_of course.first) (snapshot_of now)

@@ -5,9 +5,9 @@ use Rattle.zk_model.specs.Field.{IsElement}
 use Rattle.zk_model.specs.Mac.{Pair, macs_of}
 use Rattle.zk_model.specs.Check.{WirePairs, all_sums, opened_pairs}
 use Rattle.zk_model.specs.Files.{rounds_of, IsProverFile}
-use Rattle.zk_model.specs.Transcript.{Grant, TreeReply, Round, Setup, IsGrant, IsRound, wanted_hello, hello_frame, grant_frame, ask_frame, reply_frame, corrections_frame, challenge_frame, sums_frame, openings_frame, bytes_from, turn_bytes, BeginsWith}
+use Rattle.zk_model.specs.Transcript.{Grant, TreeReply, Round, Setup, IsGrant, IsRound, wanted_hello, hello_frame, grant_frame, ask_frame, reply_frame, corrections_frame, challenge_frame, sums_frame, openings_frame, bytes_from, turn_bytes}
 use Rattle.zk_model.specs.Correlations.{IsProverView}
-use Rattle.zk_model.specs.Frames.{Frame, grant, replies, challenge, AreReplies, verdict, refuse, FitsGrant, frame_spelling, hello}
+use Rattle.zk_model.specs.Frames.{Frame, grant, replies, challenge, AreReplies, verdict, refuse, hello}
 use Rattle.zk_model.specs.HonestProver.{round_asks}
 use Rattle.zk_model.specs.View.{span_of}
 use Rattle.zk_model.specs.declared.Kind.TheVariants.{Extended}
@@ -15,17 +15,12 @@ use Rattle.zk_model.specs.declared.Side.{Side}
 use Rattle.zk_model.specs.declared.Side.TheVariants.{Prover, Verifier}
 use Rattle.zk_model.specs.declared.Span.{Span}
 use Rattle.claim_store.specs.declared.ClaimFault.{ClaimFault}
-use Rattle.frame_link.specs.Lines.{LineState, OnlySends, IsSendCause, CountsFault}
-use Rattle.session_driver.specs.Runs.{HasPassed, Moves}
+use Rattle.session_driver.specs.Runs.{Moves}
 use Rattle.session_core.specs.Ends.{IsFixed}
 use Rattle.session_core.specs.Jobs.{ProverJob, IsProverJob, Suits}
 use Rattle.session_core.specs.Rounds.{round_turns}
 use Rattle.session_core.specs.Cores.{ProverStage, awaits_grant, awaits_replies, awaits_challenge, awaits_verdict, has_ended, ProverState, ProverAnswers, ProverRefuses, prover_expects}
 use Rattle.zk_model.specs.Statement.{IsStatement}
-use Rattle.zk_port.specs.Counts.{counted}
-use Rattle.zk_port.specs.Logs.{appended}
-use Rattle.frame_link.specs.declared.fault.LineFault.{LineFault}
-use Rattle.frame_link.specs.declared.fault.LineFault.TheVariants.{NoMemory}
 use Rattle.session_prover.specs.declared.note.ProverOutcome.{ProverOutcome}
 use Rattle.session_prover.specs.declared.note.ProverOutcome.TheVariants.{BadGrant, PeerRefused, Rejected, Accepted}
 use Rattle.zk_model.specs.declared.limits.TheConstants.{MAX_WIRES}
@@ -34,6 +29,8 @@ use Rattle.session_core.specs.declared.fault.ProverFault.{ProverFault}
 use Rattle.session_driver.specs.declared.drive.Outcome.{Outcome}
 use Rattle.session_driver.specs.declared.drive.Outcome.TheVariants.{Done, Refused, Cut}
 use Rattle.session_prover.specs.Outcomes.{claim_outcome, line_outcome, session_outcome}
+use Rattle.session_driver.specs.Leaving.{GoesWell}
+use Rattle.frame_link.specs.Lines.{LinkSnapshot}
 
 -- ---- what was claimed
 
@@ -176,44 +173,11 @@ IsLogTaken job claim (awaits_challenge given pairs wires) frame log = (element :
 IsLogTaken job claim awaits_verdict frame log = ⊥
 IsLogTaken job claim has_ended frame log = ⊥
 
--- ---- the answers
-
--- what is said after a byte of this side is a new answer of the prover's
-abbrev pub new_answer : Side → Side → ℕ
-new_answer Verifier Prover = 1
-new_answer Prover Prover = 0
-new_answer last Verifier = 0
-
--- how many answers of the prover's a log has after a byte of this side: runs of its bytes
-abbrev pub answers_behind : Side → List (Side × ℕ) → ℕ
-answers_behind last [] = 0
-answers_behind last (entry ∷ log) = new_answer last entry.0 + answers_behind entry.0 log
-
--- how many answers of the prover's a log has, its greeting too
-abbrev pub answers_in : List (Side × ℕ) → ℕ
-answers_in log = answers_behind Verifier log
-
 -- ---- the line
 
--- where a session began, and what became of its claim
-pub record Course : Type 0 where
-  pub first : LineState
-  pub claim : Claim
-
--- All that passed since a first moment is logged, each answer was sent by one send, none of which was refused, no frame is under way, and
--- there were at most as many receives as bytes came; nothing failed.
-abbrev pub GoesWell : LineState → LineState → Type 0
-GoesWell first now = HasPassed now.log (answers_in now.log) (record first { side = Prover }) now
-
--- a line where a frame is to be answered
-pub record IsLineTaken
-    (job : ProverJob)
-    (course : Course)
-    (stage : ProverStage)
-    (frame : Frame)
-    (now : LineState) : Type 0 where
-  pub log : IsLogTaken job course.claim stage frame now.log
-  pub well : GoesWell course.first now
+-- all that passed is logged, each answer was sent by one send, none of which was refused, and nothing failed
+abbrev pub AnswersEach : LinkSnapshot → LinkSnapshot → Type 0
+AnswersEach first now = GoesWell Prover now.log first now
 
 -- ---- what a prover's calls over a line require and make of it
 
@@ -244,42 +208,6 @@ answers_left awaits_grant = 4098
 answers_left (awaits_replies given came) = given.count - length came + 1
 answers_left (awaits_challenge given pairs wires) = 1
 answers_left stage = 0
-
--- nothing was sent, for want of memory; or a part of what one send was given, and that send was refused
-abbrev pub TriesSend : List ℕ → LineFault → LineState → LineState → Type 0
-TriesSend part fault old new =
-    ((fault ≡ NoMemory) × (part ≡ []) × (new.sends ≡ old.sends) × (new.refused_sends ≡ old.refused_sends))
-    ⊎ ((new.sends ≡ counted true old.sends) × (new.refused_sends ≡ counted true old.refused_sends))
-
--- These bytes were not sent: nothing of them is logged, and the link tells a first part of them, which is none where memory was
--- missing before any send; else their one send was refused.
-pub record SendStops (bytes : List ℕ) (fault : LineFault) (old new : LineState) : Type 0 where
-  pub part : List ℕ
-  pub begun : BeginsWith bytes part
-  pub logged : new.log ≡ old.log
-  pub told : new.told ≡ appended (bytes_from old.side part) old.told
-  pub sends : TriesSend part fault old new
-  pub others : OnlySends old new
-  pub cause : IsSendCause old new fault
-  pub count : CountsFault fault old new
-
--- a frame has come where a prover waits
-pub record Comes
-    (job : ProverJob)
-    (course : Course)
-    (stage : ProverStage)
-    (frame : Frame)
-    (now : LineState) : Type 0 where
-  pub before : List (Side × ℕ)
-  pub waited : IsLogAt job course.claim stage before
-  pub logged : now.log ≡ before ++ bytes_from Verifier (frame_spelling frame)
-  pub well : GoesWell course.first now
-
--- a grant has come
-pub record IsGrantTaken (job : ProverJob) (first : LineState) (given : Grant) (now : LineState) : Type 0 where
-  pub fits : FitsGrant given
-  pub log : now.log ≡ granted_log job given
-  pub well : GoesWell first now
 
 -- in a grant's place, a grant that does not suit, or a refusal
 abbrev pub IsNoGrant : ProverJob → Frame → ProverOutcome → Type 0

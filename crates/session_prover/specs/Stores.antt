@@ -1,7 +1,7 @@
 -- What a claim does to a store, as one record.
 use Rattle.std.specs.Prelude.{◌≡◌, ℕ, ◌+◌, ◌-◌, ◌*◌, ◌^◌, ◌<◌, ◌≤◌, List, [], ◌∷◌, ◌++◌, Some, IfSome, Result, IfOk, IfErr, OnOk, OnErr}
-use Rattle.zk_model.specs.ClaimedRanges.{AreMerged}
-use Rattle.zk_model.specs.Twins.{HoldsTwin}
+use Rattle.claim_store.specs.ClaimedRanges.{AreMerged}
+use Rattle.lease_journal.specs.Twins.{HoldsTwin}
 use Rattle.zk_model.specs.declared.JournalKind.TheVariants as kind
 use Rattle.zk_model.specs.declared.Span.{Span}
 use Rattle.zk_port.specs.Disks.{DiskState, LeavesOnly}
@@ -9,7 +9,7 @@ use Rattle.zk_port.specs.Images.{Only}
 use Rattle.lease_core.specs.Spans as spans
 use Rattle.lease_journal.specs.Keeps.{ChangesAt, Keeps}
 use Rattle.claim_store.specs.Causes.{ClaimCause, IsFree}
-use Rattle.claim_store.specs.Claims.{ClaimState, AreDurable, SaysOldOrNew}
+use Rattle.claim_store.specs.Claims.{ClaimState, AreDurable, SaysOldOrNewClaims}
 use Rattle.claim_store.specs.declared.ClaimFault.{ClaimFault}
 
 -- A store was asked to claim so many units from this one on, and answered so: what it is now, by what it was before. Where it
@@ -29,10 +29,10 @@ pub record Claims
   pub durable : OnOk answer (before.total < 2 ^ 64 - 1 → AreDurable disk_state now)
   pub only : OnOk answer (Only (disk_state now.disk).content (disk_state now.disk).images)
   pub read : before.fault ≡ 0 → before.total < 2 ^ 64 - 1 → (bytes : List ℕ) → (disk_state before.disk).content ≡ Some bytes
-      → IfSome (disk_state now.disk).content (SaysOldOrNew before.total before.begin before.slots before.claims (spans.span start (start + count)))
+      → IfSome (disk_state now.disk).content (SaysOldOrNewClaims before.total before.begin before.slots before.claims (spans.span start (start + count)))
   pub any_moment : before.fault ≡ 0 → before.total < 2 ^ 64 - 1 → (bytes : List ℕ) → (disk_state before.disk).content ≡ Some bytes
       → LeavesOnly (disk_state before.disk) (disk_state now.disk)
-      (SaysOldOrNew before.total before.begin before.slots before.claims (spans.span start (start + count)))
+      (SaysOldOrNewClaims before.total before.begin before.slots before.claims (spans.span start (start + count)))
   pub changes : ChangesAt (before.begin + 64) (64 * (before.slots + 1)) (disk_state before.disk) (disk_state now.disk)
   pub holds : (id : List ℕ) (total : ℕ)
       → Keeps (HoldsTwin kind.Claims id total before.begin before.slots) (disk_state before.disk) (disk_state now.disk)

@@ -4,9 +4,10 @@ ghost use Rattle.zk_model.specs.Frames as model;
 ghost use Rattle.zk_model.specs.Frames.{Allows};
 ghost use Rattle.zk_model.specs.declared.Expect.TheVariants as expect;
 ghost use Rattle.zk_model.specs.View.{span_of};
-ghost use Rattle.zk_model.specs.declared.Side.TheVariants.{Prover};
+ghost use Rattle.zk_model.specs.declared.Side.TheVariants.{Prover, Verifier};
 ghost use Rattle.session_core.specs.declared.fault.ProverFault.{ProverFault};
 ghost use Rattle.frame_link.specs.Lines.{snapshot_of};
+ghost use Rattle.session_driver.specs.Leaving.{HasCome};
 ghost use Rattle.session_driver.specs.Runs.{IsFresh};
 ghost use Rattle.session_prover.specs.Notes.{HasEnded, granted_of};
 ghost use Rattle.proof_frames.specs.Frames.{frame_value, IsShort};
@@ -274,7 +275,8 @@ pub(crate) fn prove<R: Threads + Sync, C: Claimant, L: Link>(
         (λ units. C.moves claimant.old units.0 units.1 answer claimant.new)) }
     ensures ends { HasEnded job.now
         (record { asked = C.asked claimant.new; answer = C.answer claimant.new })
-        result.outcome (snapshot_of line.old) (snapshot_of line.new) }
+        (snapshot_of line.old) result.outcome (snapshot_of line.new) }
+    ensures come { HasCome Verifier (snapshot_of line.old) (snapshot_of line.new) }
     ensures side { line.new.side ≡ Prover }
     ensures open_still { IsTrue line.new.is_open }
 {

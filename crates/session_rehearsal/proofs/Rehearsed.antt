@@ -7,7 +7,7 @@ use Rattle.zk_model.specs.Program.{Program, Solves, opened_values, correlations_
 use Rattle.zk_model.specs.Boolean.{circuit_program, products_of_bits}
 use Rattle.zk_model.specs.Statement.{circuit_statement}
 use Rattle.zk_model.specs.Transcript.{Grant, Transcript, IsGrant, units_for, bytes_from, verdict_frame}
-use Rattle.zk_model.specs.Dealing.{dealt_prover, dealt_verifier}
+use Rattle.dealer_files.specs.Dealing.{dealt_prover, dealt_verifier}
 use Rattle.zk_model.specs.HonestProver.{IsWitness}
 use Rattle.zk_model.specs.ServedVerifier.{VerifierTask, IsServed}
 use Rattle.zk_model.specs.BothEnds.{IsHonestSession}

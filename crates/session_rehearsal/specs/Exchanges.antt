@@ -43,7 +43,7 @@ log_of e =
     ++ bytes_from Verifier (verdict_frame (verdict_code e.verdict) (verdict_number e.verdict))
 
 -- this is the log of an exchange, whose numbers are in range
-pub record IsNoted (e : SessionValues) (log : List (Side × ℕ)) : Type 0 where
+pub record IsExchangeNoted (e : SessionValues) (log : List (Side × ℕ)) : Type 0 where
   pub log_is : log ≡ log_of e
   pub corrections : All IsElement e.corrections.items
   pub challenge : IsElement e.challenge

@@ -6,7 +6,7 @@ use Rattle.zk_model.specs.Program.{section_count, correlations_needed}
 use Rattle.zk_model.specs.Boolean.{private_inputs, circuit_products, circuit_program}
 use Rattle.zk_model.specs.Statement.{Statement, circuit_statement}
 use Rattle.zk_model.specs.Files.{IsProverFile, IsVerifierFile, AreDealt}
-use Rattle.zk_model.specs.Dealing.{dealt_prover, dealt_verifier}
+use Rattle.dealer_files.specs.Dealing.{dealt_prover, dealt_verifier}
 use Rattle.zk_model.specs.Transcript.{Transcript, units_for, bytes_from, verdict_frame}
 use Rattle.zk_model.specs.View.{verdict_code, verdict_number}
 use Rattle.zk_model.specs.HonestProver.{ProverTask}
@@ -86,7 +86,7 @@ pub record IsWrongLength (circuit : Circuit) (public bits : List Bool) (need got
   pub differ : need ≢ got
 
 -- the bits are as many as the private inputs, and the session takes too many units
-pub record IsTooLarge (circuit : Circuit) (public bits : List Bool) (kind : Kind) (section need units : ℕ) : Type 0 where
+pub record IsRehearsalTooLarge (circuit : Circuit) (public bits : List Bool) (kind : Kind) (section need units : ℕ) : Type 0 where
   pub inputs : length bits ≡ private_inputs (length public) circuit
   pub needed : need ≡ rehearsal_need circuit public section
   pub counted : units ≡ rehearsal_units circuit public kind section
@@ -95,7 +95,7 @@ pub record IsTooLarge (circuit : Circuit) (public bits : List Bool) (kind : Kind
 -- why there is no rehearsal
 abbrev pub RehearseCause : Circuit → List Bool → List Bool → Kind → ℕ → RehearseFault → Type 0
 RehearseCause circuit public bits kind section (WrongLength need got) = IsWrongLength circuit public bits need got
-RehearseCause circuit public bits kind section (TooLarge need units) = IsTooLarge circuit public bits kind section need units
+RehearseCause circuit public bits kind section (TooLarge need units) = IsRehearsalTooLarge circuit public bits kind section need units
 RehearseCause circuit public bits kind section NoMemory = Unit {0}
 
 -- the statement is that the circuit gives these outputs, which are the last of the bits that it has on its wires at the public

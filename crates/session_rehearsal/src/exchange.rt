@@ -11,7 +11,7 @@ ghost use Rattle.session_core.specs.Ends.{whole_grant};
 ghost use Rattle.session_core.specs.Jobs as jobs;
 ghost use Rattle.session_core.specs.Jobs.{units_of_job, granted_from, prover_from};
 ghost use Rattle.session_core.specs.Fixing.{HoldsKeys};
-ghost use Rattle.session_rehearsal.specs.Exchanges.{IsNoted, IsShortExchange, AreShort, round_log};
+ghost use Rattle.session_rehearsal.specs.Exchanges.{IsExchangeNoted, IsShortExchange, AreShort, round_log};
 ghost use Rattle.session_rehearsal.specs.Answers.{IsAnswered, IsCounted};
 ghost use Rattle.session_rehearsal.specs.Holding.{AreRoundsHeld, HoldsRounds, IsSessionOf, ends_of, ends_with};
 
@@ -79,7 +79,7 @@ pub(crate) fn run_session<R: Threads + Sync>(
     requires dealt { AreDealt prover_file verifier_file.now }
     requires granted { IsGrant prover_file.params statement.now.program
         (whole_grant prover_file.params.total section) }
-    ensures session { IfOk result (λ e. (log : List (Side × ℕ)) → IsNoted e log
+    ensures session { IfOk result (λ e. (log : List (Side × ℕ)) → IsExchangeNoted e log
         → IsSessionOf (ends_with statement.now inputs.now prover_file verifier_file.now)
         (whole_grant prover_file.params.total section) e.verdict log) }
     ensures short { IfOk result IsShortExchange }
@@ -255,7 +255,7 @@ fn judge<'v, R: Threads + Sync>(
     requires counted { IsCounted verifier.now answered }
     ensures session { IfOk result (λ e. (prover : jobs.ProverJob) (log : List (Side × ℕ))
         → prover.statement ≡ verifier.now.task.statement → AreDealt prover.file verifier.now.task.file
-        → IsAnswered prover verifier.now answered.entry → IsNoted e log
+        → IsAnswered prover verifier.now answered.entry → IsExchangeNoted e log
         → IsSessionOf (ends_of prover verifier.now) (granted_from verifier.now 0) e.verdict log) }
     ensures short { IfOk result IsShortExchange }
 {

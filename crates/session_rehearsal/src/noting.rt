@@ -6,7 +6,7 @@ ghost use Rattle.zk_model.specs.Transcript.{frame_bytes, bytes_from, hello_frame
 ghost use Rattle.proof_frames.specs.Frames.{frame_value, IsShort};
 ghost use Rattle.zk_model.specs.Frames.{frame_spelling};
 ghost use Rattle.zk_model.specs.View.{verdict_code, verdict_number};
-ghost use Rattle.session_rehearsal.specs.Exchanges.{IsNoted, IsShortExchange};
+ghost use Rattle.session_rehearsal.specs.Exchanges.{IsExchangeNoted, IsShortExchange};
 ghost use Rattle.zk_model.specs.declared.Side.TheVariants.{Prover, Verifier};
 ghost use Rattle.zk_model.specs.declared.limits.TheConstants.{MAX_PAYLOAD};
 
@@ -107,7 +107,7 @@ fn note_verdict(alloc: Global, log: &mut Log, verdict: Verdict) -> Result<(), Al
 /// The log of all that both ends say.
 pub(crate) fn note(alloc: Global, exchange: &SessionValues) -> Result<Log, AllocError>
     requires { IsShortExchange exchange.now }
-    ensures { IfOk result (λ log. IsNoted exchange.now log) }
+    ensures { IfOk result (λ log. IsExchangeNoted exchange.now log) }
 {
     let SessionValues {
         corrections,

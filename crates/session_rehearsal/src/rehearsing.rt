@@ -3,13 +3,13 @@ ghost use Rattle.std.specs.Prelude.{◌≡◌, ◌≤◌, ◌^◌, ℕ, List, Bo
 ghost use Rattle.zk_model.specs.Bits.{from_bit};
 ghost use Rattle.zk_model.specs.Boolean.{private_inputs};
 ghost use Rattle.zk_model.specs.Circuit.{AreWireBits};
-ghost use Rattle.zk_model.specs.Dealing.{dealt_prover, dealt_verifier};
+ghost use Rattle.dealer_files.specs.Dealing.{dealt_prover, dealt_verifier};
 ghost use Rattle.zk_model.specs.Program.{correlations_needed};
 ghost use Rattle.zk_model.specs.Transcript.{units_for};
 ghost use Rattle.zk_model.specs.declared.Kind.{Kind};
 ghost use Rattle.zk_model.specs.declared.Side.{Side};
 ghost use Rattle.session_core.specs.Ends.{whole_grant};
-ghost use Rattle.session_rehearsal.specs.Exchanges.{IsNoted, IsShortExchange};
+ghost use Rattle.session_rehearsal.specs.Exchanges.{IsExchangeNoted, IsShortExchange};
 ghost use Rattle.session_rehearsal.specs.Holding.{IsSessionOf, ends_with};
 ghost use Rattle.session_rehearsal.specs.Rehearsals.{IsClaimed, IsRehearsalOf, RehearseCause, AreRehearsedFiles, rehearsed_params};
 ghost use Rattle.zk_model.specs.declared.limits.TheConstants.{MAX_SECTION_LENGTH, MAX_UNITS};
@@ -66,7 +66,7 @@ fn exchange_dealt<R: Threads + Sync>(
         ≡ units_for (rehearsed_params kind 0) (correlations_needed statement.now.program section) }
     requires units_some { 1 ≤ units }
     requires units_most { units ≤ MAX_UNITS }
-    ensures held { IfOk result (λ e. (log : List (Side × ℕ)) → IsNoted e log
+    ensures held { IfOk result (λ e. (log : List (Side × ℕ)) → IsExchangeNoted e log
         → IsSessionOf (ends_with statement.now inputs.now
         (dealt_prover (rehearsed_params kind units) seed.now)
         (dealt_verifier (rehearsed_params kind units) seed.now))

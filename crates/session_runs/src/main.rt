@@ -14,6 +14,9 @@
 //! | `proof` | runs of `prove`, whose door connects to one peer |
 //! | `run` | a run of the program, with nobody at the door |
 //!
+//! A line `zk WORDS` is a command line, its words apart by single spaces, that is run over the files and journals of the folder in which
+//! the program runs, with nobody at the door. The line is written, then what the command writes, and the status that it ends with.
+//!
 //! The honest peer's bytes are those of a session that both ends hold with each other. The seed of all files is 32 bytes 7.
 //!
 //! | Word | What it says | Else |
@@ -105,15 +108,26 @@ mod sessions;
 mod units;
 
 use anyhow::Result;
-use port_os::FileShelf;
+use memory_ports::{FailAt, MemoryDoor, NoFault, ScriptedLink};
+use port_os::{FileDisk, FileShelf, NoticeSink, OutputSink};
 use scenario::{Scenario, read_scenario};
 use sessions::scenario_lines;
 use std::alloc::Global;
 use std::rt::Files;
 use std::sync::Wait;
 use std::thread::Threads;
+use zk_cli::run_zk;
 use zk_model::FILE_LIMIT;
 use zk_port::Shelf;
+
+/// The words of a command line, apart by single spaces.
+fn words_between_spaces(alloc: Global, line: &str) -> Result<Vec<String>> {
+    let mut words = Vec::new(alloc);
+    for word in line.split(' ') {
+        words.push(String::from_str(alloc, word)?)?;
+    }
+    Ok(words)
+}
 
 /// The lines of one line's scenario.
 fn lines_of<R>(rt: &R, alloc: Global, line: &str) -> Result<String>
@@ -134,9 +148,32 @@ fn main(rt: HostRuntime) -> Result<()> {
     let alloc: Global = rt.alloc();
     for line in rt.lines(alloc) {
         let line = line?;
-        let lines = lines_of(&rt, alloc, line.as_str())?;
         println!(rt; "{}", line.as_str())?;
-        print!(rt; "{}", lines.as_str())?;
+        let Some(words) = line.as_str().strip_prefix("zk ") else {
+            let lines = lines_of(&rt, alloc, line.as_str())?;
+            print!(rt; "{}", lines.as_str())?;
+            continue;
+        };
+        let words = words_between_spaces(alloc, words)?;
+        let mut shelf = FileShelf::new(&rt);
+        let mut out = OutputSink::new(&rt);
+        let mut notices = NoticeSink::new(&rt);
+        let disk = FileDisk::new(&rt);
+        let nobody = FailAt::new(Vec::new(alloc));
+        let door: MemoryDoor<ScriptedLink<NoFault>, FailAt> = MemoryDoor::new(alloc, nobody);
+        let finish = run_zk(
+            &rt,
+            alloc,
+            &words,
+            &mut shelf,
+            disk,
+            door,
+            &[7; 32],
+            &mut out,
+            &mut notices,
+        );
+        let status = finish.status;
+        println!(rt; "status {status}")?;
     }
     Ok(())
 }

@@ -1,11 +1,11 @@
 -- What is told and kept of a session, and that one with an honest peer does not stop.
-use Rattle.std.proofs.Common.{◌≡◌, inl, inr, ℕ, ◌+◌, ◌≤◌, List, [], ◌++◌, flat_map, take, drop, length, Option, Some, None, Result, Ok, Err, refl, ap, sym, ◌∙◌, subst, arith, append-nil, append_assoc, ◌⊎◌, zero, suc, ◌<◌, ◌∷◌, slice_index_or, length-append, ◌-◌, ◌*◌, get_or, length-take-le, true}
+use Rattle.std.proofs.Common.{◌≡◌, inl, inr, ℕ, ◌+◌, ◌≤◌, List, [], ◌++◌, flat_map, take, drop, length, Option, Some, None, Result, Ok, refl, ap, sym, ◌∙◌, subst, arith, append-nil, append_assoc, ◌⊎◌, zero, suc, ◌<◌, ◌∷◌, slice_index_or, length-append, ◌-◌, ◌*◌, get_or, length-take-le}
 use Rattle.std.proofs.lemmas.Option.{same_Some}
-use Rattle.std.proofs.lemmas.List.{take-append-drop, take-map, nil_from_length, drop_at, length-map}
+use Rattle.std.proofs.lemmas.List.{take-append-drop, length-map, get_or_at}
 use Rattle.zk_model.specs.Files.{rounds_of}
-use Rattle.zk_model.specs.Transcript.{BeginsWith, hello_frame, grant_frame, refuse_frame, bytes_from, turn_bytes, session_turns, spelling, Hello, Grant, Round, Setup, Transcript, IsHello, IsRound, IsSetup, IsTranscript, ask_frame, reply_frame, corrections_frame, challenge_frame, sums_frame, openings_frame, verdict_frame, setup_turns, sent_by, TreeAsk, Commitment, IsHelloFor, wanted_hello}
+use Rattle.zk_model.specs.Transcript.{BeginsWith, hello_frame, grant_frame, refuse_frame, bytes_from, turn_bytes, session_turns, spelling, Hello, Grant, Round, Transcript, IsHello, IsRound, IsTranscript, ask_frame, corrections_frame, challenge_frame, sums_frame, openings_frame, setup_turns, sent_by, TreeAsk, Commitment, IsHelloFor, wanted_hello}
 use Rattle.zk_model.specs.Frames.{Frame, frame_spelling, hello, asks, corrections, sums, openings, frame_length, Allows, AreAsks, AreElements, AreSums, CanGoOn}
-use Rattle.zk_model.specs.ServedVerifier.{IsServed, ServesWith, RepliesAre, round_replies}
+use Rattle.zk_model.specs.ServedVerifier.{IsServed, ServesWith}
 use Rattle.zk_model.specs.declared.Side.{Side}
 use Rattle.zk_model.specs.declared.Side.TheVariants.{Prover, Verifier}
 use Rattle.zk_model.specs.declared.Span.{Span}
@@ -13,32 +13,28 @@ use Rattle.zk_port.specs.Logs.{appended}
 use Rattle.session_laws.specs.Serving.{ServedSessionExists}
 use Rattle.session_laws.specs.Rounds.{RepliesAreInRange}
 use Rattle.frame_link.specs.Lines.{LinkSnapshot}
-use Rattle.frame_link.proofs.LineLemmas.{appended_more, none_is_some, front_goes_on, longest}
+use Rattle.frame_link.proofs.LineLemmas.{none_is_some, front_goes_on, longest, frame_most}
 use Rattle.lease_store.specs.declared.LeaseFault.{LeaseFault}
 use Rattle.session_core.specs.Jobs.{VerifierJob, units_of_job, granted_from, VerifierJobs, IsFirstFor, IsHelloOf, all_jobs, job_at, noted_job}
 use Rattle.session_core.specs.Judgements.{verdict_in}
 use Rattle.session_core.specs.Cores.{VerifierStage, VerifierAnswers, awaits_hello, owes_grant, behind_grant, awaits_asks, awaits_corrections, awaits_sums, awaits_openings, has_judged, AreAsksSoFar, verifier_expects}
 use Rattle.session_core.specs.declared.judgement.Judgement.{Judgement}
-use Rattle.session_verifier.specs.Outcomes.{Refuses, lease_code, refusal_of}
-use Rattle.session_verifier.specs.Stages.{IsHeldJob, IsLogAt, IsUnsent, IsAnswer, IsFault, SendsUpTo, IsBehind, IsStopped, IsWholeHello, IsRefusalTried, IsRefusedGrant, LacksTheGrant, RefusesHello, IsCourse, StopCause, IsUnmet, IsGranted}
-use Rattle.session_verifier.specs.Notes.{BeginsRefusal, RefusesSends, SendsRightly, TellsRightly, IsAllSent, IsTold, IsUngranted, KeepsKeys, BeginsByHello, IsPeerEnd, HasHonestPeer, TakesStatement, CompletesForEach}
+use Rattle.session_verifier.specs.Outcomes.{Refuses, lease_code, refusal_of, hello_code, line_outcome, session_outcome, judgement_outcome, lease_outcome}
+use Rattle.session_verifier.specs.Stages.{IsHeldJob, IsLogAt, IsAnswer, IsBehind, IsStopped, ComesThere, RefusesAfter, last_turn, Ending, HasEnding, answer_at, outcome_at, lacks_hello, turns_away, lacks_units, lacks_grant, loses_grant, stops_behind, judges}
+use Rattle.session_verifier.specs.Notes.{BeginsRefusal, TellsRightly, IsAllSent, IsTold, BeginsByHello, HasHonestPeer, TakesStatement, CompletesForEach, HasHonestCaller}
 use Rattle.session_verifier.proofs.StageLemmas.{logs_on, grant_behind, either_kind, behind_direct, behind_extended, turns_append, one_expected, few_of}
-use Rattle.session_verifier.proofs.CourseLemmas.{IsKnown, judged_session, hello_sent, hello_bytes, greeting_is_hello, lease_refusal, IsCutOf, cut_of_log, cut_asks, cut_corrections, cut_sums, serves_with, sends_rightly, greeting_within, unrefused, cut_of_stop, in_next, in_last, cut_openings, length_corrections, length_sums, length_openings, accepted_judgement, answered_alone}
+use Rattle.session_verifier.proofs.CourseLemmas.{judged_session, hello_bytes, lease_refusal, sends_rightly, accepted_judgement, hello_refusal, sends_behind, serves_judged, begins_within}
 use Rattle.session_verifier.specs.declared.note.VerifierOutcome.{VerifierOutcome}
-use Rattle.session_verifier.specs.declared.note.VerifierOutcome.TheVariants.{Link, NoMemory, Accepted, PeerEnded, BadFrame, BadHello}
+use Rattle.session_verifier.specs.declared.note.VerifierOutcome.TheVariants.{Link, NoMemory, Accepted, PeerEnded, BadFrame}
 use Rattle.std.specs.Prelude.{All}
-use Rattle.std.proofs.lemmas.List.Elements.{All-nil, All-take, All-cons}
+use Rattle.std.proofs.lemmas.List.Elements.{All-take}
 use Rattle.zk_model.specs.Program.{section_count}
-use Rattle.zk_model.specs.declared.Kind.TheVariants.{Direct, Extended}
-use Rattle.zk_model.specs.declared.Params.{Params}
-use Rattle.zk_laws.specs.Keys.{KeysFit}
-use Rattle.zk_laws.specs.SeenPairs.{AreRounds}
+use Rattle.zk_model.specs.declared.Kind.TheVariants.{Extended}
 use Rattle.frame_laws.proofs.Codes.{same_front}
-use Rattle.frame_laws.proofs.FrameCodes.{hello_code}
-use Rattle.frame_laws.proofs.SentBytes.{sent_by-append, own_bytes, sent_by-prover, sent_by-verifier}
-use Rattle.session_laws.proofs.Turns.{said, answered, cut_said, cut_answered}
-use Rattle.session_driver.proofs.Rows.{nested}
-use Rattle.frame_link.proofs.FramesLemmas.{some_replies, ask_length, asks_length}
+use Rattle.frame_laws.proofs.FrameCodes.{hello_code as one_hello}
+use Rattle.frame_laws.proofs.SentBytes.{sent_by-append, own_bytes, none_of_prover}
+use Rattle.session_laws.proofs.Turns.{said}
+use Rattle.frame_link.proofs.FramesLemmas.{asks_length}
 use Rattle.std.proofs.Math.Nat.{mul-le-mul_right}
 use Rattle.std.proofs.lemmas.Bool.{cases_order}
 use Rattle.zk_model.specs.Check.{AllBelow}
@@ -52,12 +48,16 @@ use Rattle.zk_model.specs.View.{verdict_code}
 use Rattle.zk_model.specs.declared.Expect.{Expect}
 use Rattle.zk_laws.specs.Completeness.{AreCounterparts}
 use Rattle.session_laws.specs.Peers.{IsServedTurns, IsHonestUpTo, HonestTurn, HonestTurnEnds, HonestWholeIsAccepted, said_in}
-use Rattle.zk_port.specs.Counts.{Rose, counted}
-use Rattle.session_core.specs.declared.fault.HelloDiffers.{HelloDiffers}
+use Rattle.zk_port.specs.Counts.{Rose}
 use Rattle.zk_model.specs.declared.Expect.TheVariants as expect
 use Rattle.session_core.specs.Rounds.{round_turns}
-use Rattle.session_driver.proofs.Rounds.{BeginAlike, first_of, round_of, same_rounds, only, turns_of, setup_turns_of}
-use Rattle.session_driver.proofs.Going.{came_same, bytes_more}
+use Rattle.session_driver.proofs.Going.{bytes_more}
+use Rattle.session_driver.specs.Leaving.{CountsCalls, IsLost, IsSendFault, StopsShort}
+use Rattle.frame_link.specs.declared.fault.LineFault.{LineFault}
+use Rattle.frame_link.specs.declared.fault.LineFault.TheVariants as line
+use Rattle.session_core.specs.declared.fault.VerifierFault.TheVariants as session
+use Rattle.session_verifier.proofs.Cuts.{IsKnown, greeting_is_hello, serves_with, IsCutOf, length_corrections, length_sums, length_openings, cut_of_stop, cut_of_log, cut_asks, cut_corrections, cut_sums, cut_openings}
+use Rattle.session_pool.specs.Notes.{granted_by}
 
 -- What the link tells after the log: a part of the one answer whose send was refused.
 
@@ -154,360 +154,109 @@ granted_part job start log count ranges law known within at =
     ]
 
 -- after the log where a session stopped
-due_part : (job : VerifierJob) (start : ℕ) (stage : VerifierStage) (before log : List (Side × ℕ)) (rest answer : List ℕ) (count : ℕ)
-    → RepliesAreInRange → ServedSessionExists → IsKnown job → IsBehind start stage → IsLogAt job stage before → log ≡ before ++ bytes_from Prover rest
-    → IsAnswer job stage rest answer
+due_part : (job : VerifierJob) (start : ℕ) (stage : VerifierStage) (log : List (Side × ℕ)) (comes : ComesThere job stage log) (answer : List ℕ) (count : ℕ)
+    → RepliesAreInRange → ServedSessionExists → IsKnown job → IsBehind start stage → IsAnswer job stage comes.place comes.rest answer
     → ServesWith job.task (granted_from job start) (log ++ bytes_from Verifier (take count answer))
-due_part job start stage before log rest answer count ranges law known starts waited logged is =
+due_part job start stage log comes answer count ranges law known starts is =
     let held : IsHeldJob job = record { file = known.file; is = known.is } in
-    let next = logs_on job stage is.next before is.allowed.0 is.frame is.frames ranges held is.allowed.1 is.allowed.2 waited is.answers in
-    let whole : (before ++ bytes_from Prover (frame_spelling is.frame)) ++ bytes_from Verifier (flat_map frame_spelling is.frames) ≡ log ++ bytes_from Verifier answer =
-    (λ i. (before ++ bytes_from Prover (sym is.came i)) ++ bytes_from Verifier (sym is.answer_is i)) ∙ ap (λ l. l ++ bytes_from Verifier answer) (sym logged) in
+    let next = logs_on job stage is.next comes.before comes.place is.frame is.frames ranges held comes.expected is.allowed comes.waited is.answers in
+    let whole : (comes.before ++ bytes_from Prover (frame_spelling is.frame)) ++ bytes_from Verifier (flat_map frame_spelling is.frames) ≡ log ++ bytes_from Verifier answer =
+    (λ i. (comes.before ++ bytes_from Prover (sym is.came i)) ++ bytes_from Verifier (sym is.answer_is i))
+    ∙ ap (λ l. l ++ bytes_from Verifier answer) (sym comes.logged) in
     answered_part job start stage is.next is.frame is.frames log answer count ranges law known starts is.answers is.at_least_one
     (subst (IsLogAt job is.next) whole next)
 
--- ---- a refusal
+-- ---- what is told
 
--- what is told of a refusal: it, or a first part of it
-record TellsRefusal (outcome : VerifierOutcome) (first now : LinkSnapshot) : Type 0 where
-  part : List ℕ
-  told : now.told ≡ appended (now.log ++ bytes_from Verifier part) first.told
-  begins : BeginsRefusal outcome (now.log ++ bytes_from Verifier part)
-  refused : ((part ≡ []) × (now.refused_sends ≡ first.refused_sends)) ⊎ (now.refused_sends ≡ counted true first.refused_sends)
+-- the log alone
+told_whole : (job : VerifierJob) (granted : Option Span) (outcome : VerifierOutcome) (first now : LinkSnapshot) → now.told ≡ appended now.log first.told
+    → now.refused_sends ≡ first.refused_sends → TellsRightly job granted outcome now.log → IsTold job granted outcome first now
+told_whole job granted outcome first now told unrefused rightly = record {
+  part = [];
+  told = told ∙ ap (λ l. appended l first.told) (sym (append-nil now.log));
+  refused = inl (refl, unrefused);
+  rightly = subst (TellsRightly job granted outcome) (sym (append-nil now.log)) rightly;
+}
 
-tells_refusal : (outcome : VerifierOutcome) (code : ℕ) (rest : List ℕ) (first mid now : LinkSnapshot) → IsWholeHello rest → refusal_of outcome ≡ Some code
-    → mid.log ≡ bytes_from Prover rest → mid.told ≡ appended mid.log first.told → mid.refused_sends ≡ first.refused_sends
-    → IsRefusalTried code mid now → TellsRefusal outcome first now
-tells_refusal outcome code rest first mid now whole of log told unrefused refused = elim refused.sent [
-  | inl sent ↦ record {
-    part = [];
-    told = sent.told ∙ ap (appended (bytes_from Verifier (refuse_frame code))) told
-        ∙ appended_more mid.log (bytes_from Verifier (refuse_frame code)) first.told
-        ∙ ap (λ l. appended l first.told) (sym sent.log ∙ sym (append-nil now.log));
-    begins = record {
-      rest = rest;
-      hello = whole;
-      code = code;
-      code_is = of;
-      answer = refuse_frame code;
-      begun = ([], sym (append-nil (refuse_frame code)));
-      bytes = append-nil now.log ∙ sent.log ∙ ap (λ l. l ++ bytes_from Verifier (refuse_frame code)) log;
-    };
-    refused = inl (refl, sent.refused_sends ∙ unrefused);
-  }
-  | inr unsent ↦
-      let count = unsent.told.count in
-      let part = take count (refuse_frame code) in
-      record {
-        part = part;
-        told = unsent.told.part
-            ∙ ap (λ l. appended l mid.told) (take-map (λ (byte : ℕ). (Verifier, byte)) count (refuse_frame code))
-            ∙ ap (appended (bytes_from Verifier part)) told
-            ∙ appended_more mid.log (bytes_from Verifier part) first.told
-            ∙ ap (λ l. appended (l ++ bytes_from Verifier part) first.told) (sym unsent.log);
-        begins = record {
-          rest = rest;
-          hello = whole;
-          code = code;
-          code_is = of;
-          answer = part;
-          begun = (drop count (refuse_frame code), sym (take-append-drop count (refuse_frame code)));
-          bytes = ap (λ l. l ++ bytes_from Verifier part) (unsent.log ∙ log);
-        };
-        refused = inr (unsent.refused_sends ∙ ap (counted true) unrefused);
-      }
-]
+-- and a first part of bytes whose send was refused
+told_part : (job : VerifierJob) (granted : Option Span) (outcome : VerifierOutcome) (log : List (Side × ℕ)) (bytes : List ℕ) (first now : LinkSnapshot)
+    → (IsAllSent outcome → ⊥) → ((count : ℕ) → TellsRightly job granted outcome (log ++ bytes_from Verifier (take count bytes)))
+    → IsLost Verifier log bytes first now → IsTold job granted outcome first now
+told_part job granted outcome log bytes first now never rightly lost = record {
+  part = take lost.count bytes;
+  told = lost.told ∙ ap (λ l. appended (l ++ bytes_from Verifier (take lost.count bytes)) first.told) (sym lost.logged);
+  refused = inr (never, lost.refused_sends);
+  rightly = subst (λ l. TellsRightly job granted outcome (l ++ bytes_from Verifier (take lost.count bytes))) (sym lost.logged) (rightly lost.count);
+}
 
 -- where a refusal is due, it may not have been sent
 refuses_never : (outcome : VerifierOutcome) → Refuses outcome → IsAllSent outcome → ⊥
 refuses_never Link refuses all = all
 refuses_never other refuses all = none_is_some (sym all ∙ refuses.1)
 
--- one send was refused at most
-sends_refused : (outcome : VerifierOutcome) (first now : LinkSnapshot) → (IsAllSent outcome → ⊥) → (tells : TellsRefusal outcome first now)
-    → RefusesSends outcome tells.part first now
-sends_refused outcome first now never tells = elim tells.refused [ inl none ↦ inl none | inr one ↦ inr (never, one) ]
-
-told_unleased : (job : VerifierJob) (outcome : VerifierOutcome) (first now : LinkSnapshot) → (IsAllSent outcome → ⊥) → TellsRefusal outcome first now
-    → IsTold job None outcome first now
-told_unleased job outcome first now never tells =
-    record {
-      part = tells.part;
-      told = tells.told;
-      none = λ all. absurd (never all);
-      refused = sends_refused outcome first now never tells;
-      rightly = inr tells.begins;
-    }
-
--- ---- all is told
-
-told_whole : (job : VerifierJob) (granted : Option Span) (outcome : VerifierOutcome) (first now : LinkSnapshot) → now.told ≡ appended now.log first.told
-    → now.refused_sends ≡ first.refused_sends → TellsRightly job granted outcome now.log → IsTold job granted outcome first now
-told_whole job granted outcome first now told unrefused rightly = record {
-  part = [];
-  told = told ∙ ap (λ l. appended l first.told) (sym (append-nil now.log));
-  none = λ _. refl;
-  refused = inl (refl, unrefused);
-  rightly = subst (TellsRightly job granted outcome) (sym (append-nil now.log)) rightly;
-}
-
--- where no units were leased
-told_unmet : (job : VerifierJob) (outcome : VerifierOutcome) (first mid now : LinkSnapshot) → SendsRightly job None outcome now.log
-    → (stopped : IsStopped job awaits_hello outcome first mid) → RefusesHello stopped.rest outcome mid now → IsTold job None outcome first now
-told_unmet job outcome first mid now sends stopped (inl refused) = told_unleased job outcome first now (refuses_never outcome (refused.0, refused.1))
-    (tells_refusal outcome refused.0 stopped.rest first mid now refused.2 refused.1
-    (hello_bytes job outcome first mid stopped) (hello_sent job stopped.expect stopped.rest outcome first mid stopped.sends).told
-    (hello_sent job stopped.expect stopped.rest outcome first mid stopped.sends).refused_sends refused.3)
-told_unmet job outcome first mid now sends stopped (inr none) = told_whole job None outcome first now
-    (subst (λ (m : LinkSnapshot). m.told ≡ appended m.log first.told) (sym none.1)
-    (hello_sent job stopped.expect stopped.rest outcome first mid stopped.sends).told)
-    (subst (λ (m : LinkSnapshot). m.refused_sends ≡ first.refused_sends) (sym none.1)
-    (hello_sent job stopped.expect stopped.rest outcome first mid stopped.sends).refused_sends) (inl sends)
-
-fault_never : (outcome : VerifierOutcome) → IsFault outcome → IsAllSent outcome → ⊥
-fault_never Link is all = all
-fault_never NoMemory is all = none_is_some (sym all)
+-- nor may what a fault kept back
+fault_never : (fault : LineFault) → IsSendFault fault → IsAllSent (line_outcome fault) → ⊥
+fault_never line.Link is all = all
+fault_never line.NoMemory is all = none_is_some (sym all)
 fault_never other is all = is
 
--- after a hello for the statement
-tells_refused_grant : (job : VerifierJob) (outcome : VerifierOutcome) (code : ℕ) (first now : LinkSnapshot) → IsKnown job → refusal_of outcome ≡ Some code
-    → IsRefusedGrant job code first now → TellsRefusal outcome first now
-tells_refused_grant job outcome code first now known of is =
-    let greeting = is.waiting.log.greeting in
-    tells_refusal outcome code (hello_frame greeting.hello) first is.mid now
-    (greeting.hello, greeting_is_hello job known greeting, refl) of is.waiting.log.bytes is.waiting.sent.told is.waiting.sent.refused_sends is.refused
+begins_refusal : (outcome : VerifierOutcome) (code : ℕ) (said : Hello) (part : List ℕ) → IsHello said → refusal_of outcome ≡ Some code
+    → BeginsWith (refuse_frame code) part → BeginsRefusal outcome (bytes_from Prover (hello_frame said) ++ bytes_from Verifier part)
+begins_refusal outcome code said part is of begun =
+    record { rest = hello_frame said; hello = (said, is, refl); code = code; code_is = of; answer = part; begun = begun; bytes = refl }
 
--- a part of an answer is told
-told_part : (job : VerifierJob) (span : Span) (outcome : VerifierOutcome) (answers : ℕ) (answer : List ℕ) (first now : LinkSnapshot) → IsFault outcome
-    → (unsent : IsUnsent answers answer first now)
-    → ServesWith job.task (granted_from job span.start) (now.log ++ bytes_from Verifier (take unsent.count answer))
-    → IsTold job (Some span) outcome first now
-told_part job span outcome answers answer first now is unsent serves =
-    record {
-      part = take unsent.count answer;
-      told = unsent.told;
-      none = λ all. absurd (fault_never outcome is all);
-      refused = inr (fault_never outcome is, unsent.refused_sends);
-      rightly = inl serves;
-    }
+told_refusal : (job : VerifierJob) (granted : Option Span) (outcome : VerifierOutcome) (code : ℕ) (said : Hello) (first now : LinkSnapshot) → IsHello said
+    → refusal_of outcome ≡ Some code → ((log : List (Side × ℕ)) → BeginsRefusal outcome log → TellsRightly job granted outcome log)
+    → RefusesAfter said code first now → IsTold job granted outcome first now
+told_refusal job granted outcome code said first now is of rightly (inl well) =
+    told_whole job granted outcome first now (well.told ∙ ap (λ l. appended l first.told) (sym well.logged)) well.refused_sends
+    (rightly now.log (subst (BeginsRefusal outcome) (sym well.logged)
+    (begins_refusal outcome code said (refuse_frame code) is of ([], sym (append-nil (refuse_frame code))))))
+told_refusal job granted outcome code said first now is of rightly (inr lost) =
+    told_part job granted outcome (bytes_from Prover (hello_frame said)) (refuse_frame code) first now (refuses_never outcome (code, of))
+    (λ count. rightly (bytes_from Prover (hello_frame said) ++ bytes_from Verifier (take count (refuse_frame code)))
+    (begins_refusal outcome code said (take count (refuse_frame code)) is of (drop count (refuse_frame code), sym (take-append-drop count (refuse_frame code))))) lost
 
-told_lacking : (job : VerifierJob) (span : Span) (outcome : VerifierOutcome) (first now : LinkSnapshot) → RepliesAreInRange → ServedSessionExists → IsKnown job
-    → span.start + units_of_job job ≤ job.task.file.params.total → LacksTheGrant job span.start outcome first now → IsTold job (Some span) outcome first now
-told_lacking job span outcome first now ranges law known within (inl refused) =
-    let tells = tells_refused_grant job NoMemory 4 first now known refl refused.1 in
-    subst (λ o. IsTold job (Some span) o first now) (sym refused.0)
-    (record {
-      part = tells.part;
-      told = tells.told;
-      none = λ all. absurd (fault_never NoMemory tt all);
-      refused = sends_refused NoMemory first now (fault_never NoMemory tt) tells;
-      rightly = inr (refl, tells.begins);
-    })
-told_lacking job span outcome first now ranges law known within (inr unsent) =
-    told_part job span outcome 0 (grant_frame (granted_from job span.start)) first now unsent.fault unsent.unsent
-    (granted_part job span.start now.log unsent.unsent.count ranges law known within unsent.log)
+-- a session that stopped where it waited
+told_stopped : (job : VerifierJob) (granted : Option Span) (stage : VerifierStage) (fault : LineFault) (first now : LinkSnapshot) (stopped : IsStopped job stage fault first now)
+    → TellsRightly job granted (line_outcome fault) now.log
+    → ((answer : List ℕ) (count : ℕ) → IsAnswer job stage stopped.place stopped.rest answer
+    → TellsRightly job granted (line_outcome fault) (now.log ++ bytes_from Verifier (take count answer))) → IsTold job granted (line_outcome fault) first now
+told_stopped job granted stage fault first now stopped rightly due = elim stopped.why [
+  | inl short ↦ told_whole job granted (line_outcome fault) first now short.told short.refused_sends rightly
+  | inr (inl lacks) ↦ told_whole job granted (line_outcome fault) first now lacks.3.told lacks.3.refused_sends rightly
+  | inr (inr unsent) ↦ told_part job granted (line_outcome fault) now.log unsent.0 first now
+      (fault_never fault unsent.2.fault_is) (λ count. due unsent.0 count unsent.1) unsent.2.lost
+]
 
--- what is logged and sent in a session whose units were leased, where it is no refusal
-serves_of : (job : VerifierJob) (span : Span) (outcome : VerifierOutcome) (log : List (Side × ℕ)) → IsKnown job → SendsRightly job (Some span) outcome log
-    → TellsRightly job (Some span) outcome log
-serves_of job span outcome log known (inl serves) = inl serves
-serves_of job span outcome log known (inr refused) = inr (
-  refused.0,
-  record {
-    rest = hello_frame refused.1.0.hello;
-    hello = (refused.1.0.hello, greeting_is_hello job known refused.1.0, refl);
-    code = 4;
-    code_is = refl;
-    answer = refuse_frame 4;
-    begun = ([], sym (append-nil (refuse_frame 4)));
-    bytes = refused.1.1;
-  },
-)
+-- a hello has no answer but a grant
+no_answer : (job : VerifierJob) (place : Expect) (rest answer : List ℕ) → IsAnswer job awaits_hello place rest answer → ⊥
+no_answer job place rest answer is = absurd (omega (arith, is.at_least_one, ap length is.answers.3))
 
-pub is_told : (job : VerifierJob) (answer : Option (Result Span LeaseFault)) (granted : Option Span) (outcome : VerifierOutcome) (first now : LinkSnapshot)
-    → RepliesAreInRange → ServedSessionExists → IsKnown job → IsCourse job answer granted outcome first now → IsTold job granted outcome first now
-is_told job None granted outcome first now ranges law known course =
-    let sends = subst (λ g. SendsRightly job g outcome now.log) course.0 (sends_rightly job None granted outcome first now ranges law known course) in
-    subst (λ g. IsTold job g outcome first now) (sym course.0) (told_unmet job outcome first course.1.mid now sends course.1.stopped course.1.refused)
-is_told job (Some (Err fault)) granted outcome first now ranges law known course =
-    let refusal = ap refusal_of course.1.named ∙ lease_refusal fault in
-    subst (λ g. IsTold job g outcome first now) (sym course.0)
-    (told_unleased job outcome first now (refuses_never outcome (lease_code fault, refusal))
-    (tells_refused_grant job outcome (lease_code fault) first now known refusal course.1.refused))
-is_told job (Some (Ok span)) granted outcome first now ranges law known course = subst (λ g. IsTold job g outcome first now) (sym course.0)
-    (elim course.1.course [
-      | inl lacks ↦ told_lacking job span outcome first now ranges law known within lacks
-      | inr (inl stops) ↦ stops_told stops.stage stops.behind stops.stopped stops.stopped.sends
-      | inr (inr found) ↦ told_whole job (Some span) outcome first now found.2.sent.told found.2.sent.refused_sends (serves_of job span outcome now.log known sends)
-    ])
-  where
-    within : span.start + units_of_job job ≤ job.task.file.params.total
-    within = omega (arith, course.1.units, course.1.within)
-
-    sends : SendsRightly job (Some span) outcome now.log
-    sends = subst (λ g. SendsRightly job g outcome now.log) course.0 (sends_rightly job (Some (Ok span)) granted outcome first now ranges law known course)
-
-    stops_told : (stage : VerifierStage) → IsBehind span.start stage → (stopped : IsStopped job stage outcome first now)
-        → SendsUpTo job stage stopped.expect stopped.rest outcome first now → IsTold job (Some span) outcome first now
-    stops_told stage starts stopped (inl sent) = told_whole job (Some span) outcome first now sent.0.told sent.0.refused_sends (serves_of job span outcome now.log known sends)
-    stops_told stage starts stopped (inr unsent) =
-        let is = unsent.1 in
-        told_part job span outcome _ is.0 first now unsent.0 is.2
-        (due_part job span.start stage stopped.before now.log stopped.rest is.0 is.2.count ranges law known starts stopped.waited stopped.log is.1)
-
--- The keys fit the pairs that the prover sees: the replies that a log tells are those of the verifier's file.
-
--- ---- logs that begin with two turns
-
--- what a log tells that begins with two turns
-two_said : (one two : List ℕ × List ℕ) (more : List (Side × ℕ)) → sent_by Prover (turn_bytes (one ∷ two ∷ []) ++ more) ≡ one.0 ++ (two.0 ++ sent_by Prover more)
-two_said one two more =
-    sent_by-append Prover (turn_bytes (one ∷ two ∷ [])) more ∙ ap (λ l. l ++ sent_by Prover more) (sent_by-prover (one ∷ two ∷ []))
-    ∙ nested one.0 two.0 [] (sent_by Prover more)
-
-two_answered : (one two : List ℕ × List ℕ) (more : List (Side × ℕ))
-    → sent_by Verifier (turn_bytes (one ∷ two ∷ []) ++ more) ≡ one.1 ++ (two.1 ++ sent_by Verifier more)
-two_answered one two more =
-    sent_by-append Verifier (turn_bytes (one ∷ two ∷ [])) more ∙ ap (λ l. l ++ sent_by Verifier more) (sent_by-verifier (one ∷ two ∷ []))
-    ∙ nested one.1 two.1 [] (sent_by Verifier more)
-
--- a beginning of turns
-alike_begun : (first second one two : List ℕ × List ℕ) (turns : List (List ℕ × List ℕ)) (log more rest : List (Side × ℕ))
-    → log ≡ turn_bytes (one ∷ two ∷ []) ++ more → turn_bytes (first ∷ second ∷ turns) ≡ log ++ rest → BeginAlike first second one two
-alike_begun first second one two turns log more rest is begun =
-    let all : turn_bytes (first ∷ second ∷ turns) ≡ turn_bytes (one ∷ two ∷ []) ++ (more ++ rest) =
-    begun ∙ ap (λ l. l ++ rest) is ∙ append_assoc (turn_bytes (one ∷ two ∷ [])) more rest in
-    record {
-      said_here = said turns;
-      said_there = sent_by Prover (more ++ rest);
-      same_said = sym (sent_by-prover (first ∷ second ∷ turns)) ∙ ap (sent_by Prover) all ∙ two_said one two (more ++ rest);
-      answered_here = answered turns;
-      answered_there = sent_by Verifier (more ++ rest);
-      same_answered = sym (sent_by-verifier (first ∷ second ∷ turns)) ∙ ap (sent_by Verifier) all ∙ two_answered one two (more ++ rest);
-    }
-
--- whole turns, and bytes of the prover
-alike_cut : (first second one two : List ℕ × List ℕ) (turns : List (List ℕ × List ℕ)) (rest : List ℕ) (log more : List (Side × ℕ))
-    → log ≡ turn_bytes (one ∷ two ∷ []) ++ more → log ≡ turn_bytes (first ∷ second ∷ turns) ++ bytes_from Prover rest → BeginAlike first second one two
-alike_cut first second one two turns rest log more is cut = record {
-  said_here = said turns ++ rest;
-  said_there = sent_by Prover more;
-  same_said = ap (λ l. first.0 ++ l) (sym (append_assoc second.0 (said turns) rest)) ∙ sym (append_assoc first.0 (second.0 ++ said turns) rest)
-      ∙ sym (cut_said (first ∷ second ∷ turns) rest) ∙ ap (sent_by Prover) (sym cut ∙ is) ∙ two_said one two more;
-  answered_here = answered turns;
-  answered_there = sent_by Verifier more;
-  same_answered = sym (cut_answered (first ∷ second ∷ turns) rest) ∙ ap (sent_by Verifier) (sym cut ∙ is) ∙ two_answered one two more;
-}
-
--- two turns are whole at least, where the answers to two are logged
-not_before : (turns : List (List ℕ × List ℕ)) (one two : List ℕ × List ℕ) (rest : List ℕ) (log more : List (Side × ℕ))
-    → log ≡ turn_bytes (one ∷ two ∷ []) ++ more → log ≡ turn_bytes turns ++ bytes_from Prover rest → length (answered turns) < length one.1 + length two.1 → ⊥
-not_before turns one two rest log more is cut few =
-    let same : answered turns ≡ one.1 ++ (two.1 ++ sent_by Verifier more) =
-    sym (cut_answered turns rest) ∙ ap (sent_by Verifier) (sym cut ∙ is) ∙ two_answered one two more in
-    absurd (omega (arith, few, ap length same, length-append one.1 (two.1 ++ sent_by Verifier more), length-append two.1 (sent_by Verifier more)))
-
-alike_in_turn : (first second one two : List ℕ × List ℕ) (turns : List (List ℕ × List ℕ)) (whole : ℕ) (rest : List ℕ) (log more : List (Side × ℕ))
-    → log ≡ turn_bytes (one ∷ two ∷ []) ++ more → log ≡ turn_bytes (take whole (first ∷ second ∷ turns)) ++ bytes_from Prover rest
-    → length first.1 ≡ length one.1 → 1 ≤ length two.1 → BeginAlike first second one two
-alike_in_turn first second one two turns zero rest log more is cut long some =
-    absurd (not_before [] one two rest log more is cut (omega (arith, some)))
-alike_in_turn first second one two turns (suc zero) rest log more is cut long some =
-    absurd (not_before (first ∷ []) one two rest log more is cut (omega (arith, some, long, ap length (append-nil first.1))))
-alike_in_turn first second one two turns (suc (suc n)) rest log more is cut long some =
-    alike_cut first second one two (take n turns) rest log more is cut
-
--- ---- the replies that a log tells
-
--- of a session that the verifier serves
-served_alike : (job : VerifierJob) (grant : Grant) (log more : List (Side × ℕ)) (setup : Setup) (round another : Round)
-    → IsSetup job.task.file.params job.task.statement.program setup → setup.rounds ≡ another ∷ []
-    → log ≡ turn_bytes (setup_turns setup) ++ more → (serves : ServesWith job.task grant log) → serves.t.commitment.setup.rounds ≡ round ∷ []
-    → BeginAlike (first_of serves.t.commitment.setup.hello serves.t.commitment.setup.grant) (round_of round) (first_of setup.hello setup.grant) (round_of another)
-served_alike job grant log more setup round another is one begins serves only_round =
-    let t : Transcript = serves.t in
-    let last : List (List ℕ × List ℕ) = (corrections_frame serves.t.commitment.corrections, challenge_frame serves.t.challenge)
-    ∷ (sums_frame serves.t.sums ++ openings_frame serves.t.openings, verdict_frame serves.t.code serves.t.number) ∷ [] in
-    let logged : log ≡ turn_bytes (first_of setup.hello setup.grant ∷ round_of another ∷ []) ++ more =
-    begins ∙ ap (λ l. turn_bytes l ++ more) (setup_turns_of setup another one) in
-    let ranged : IsRound job.task.file.params setup.grant another =
-    subst (All (IsRound job.task.file.params setup.grant)) one is.rounds 0 another (omega arith) in
-    let some : 1 ≤ length (flat_map reply_frame another.replies) = some_replies another.replies (omega (arith, ranged.replies.0, is.grant.count)) in
-    elim serves.bytes [
-      | inl begun ↦ alike_begun (first_of t.commitment.setup.hello t.commitment.setup.grant) (round_of round) (first_of setup.hello setup.grant)
-          (round_of another)
-          last log more begun.0 logged (ap turn_bytes (sym (turns_of t round only_round)) ∙ begun.1)
-      | inr cut ↦ alike_in_turn (first_of t.commitment.setup.hello t.commitment.setup.grant) (round_of round) (first_of setup.hello setup.grant)
-          (round_of another)
-          last cut.whole cut.rest log more logged
-          (cut.bytes ∙ ap (λ (l : List (List ℕ × List ℕ)). turn_bytes (take cut.whole l) ++ bytes_from Prover cut.rest) (turns_of t round only_round)) refl some
-    ]
-
-served_replies : (job : VerifierJob) (grant : Grant) (log : List (Side × ℕ)) (setup : Setup) → IsKnown job → job.task.file.params.kind ≡ Extended
-    → IsSetup job.task.file.params job.task.statement.program setup → BeginsWith log (turn_bytes (setup_turns setup)) → ServesWith job.task grant log
-    → RepliesAre job.task.file setup
-served_replies job grant log setup known extended is begins serves =
-    let params = job.task.file.params in
-    let t = serves.t in
-    let own = t.commitment.setup in
-    let transcript : IsTranscript params job.task.statement.program t = serves.served.in_order.transcript in
-    let set = transcript.commitment.setup in
-    let mine = only own.rounds (set.round_count ∙ ap rounds_of extended) in
-    let one = only setup.rounds (is.round_count ∙ ap rounds_of extended) in
-    let alike = served_alike job grant log begins.0 setup mine.0 one.0 is one.1 begins.1 serves mine.1 in
-    let here : IsRound params own.grant mine.0 = subst (All (IsRound params own.grant)) mine.1 set.rounds 0 mine.0 (omega arith) in
-    let there : IsRound params setup.grant one.0 = subst (All (IsRound params setup.grant)) one.1 is.rounds 0 one.0 (omega arith) in
-    let same = same_rounds params job.task.statement.program own.hello setup.hello own.grant setup.grant mine.0 one.0 known.file.params
-    set.hello is.hello set.grant is.grant here there alike in
-    let replied : mine.0.replies ≡ round_replies job.task.file own.grant mine.0.asks =
-    subst (All (λ (r : Round). r.replies ≡ round_replies job.task.file own.grant r.asks)) mine.1 serves.served.replies 0 mine.0 (omega arith) in
-    let so : one.0.replies ≡ round_replies job.task.file setup.grant one.0.asks =
-    sym same.replies ∙ replied ∙ (λ i. round_replies job.task.file (same.grants i) (same.asks i)) in
-    subst (All (λ (r : Round). r.replies ≡ round_replies job.task.file setup.grant r.asks)) (sym one.1)
-    (All-cons (λ (r : Round). r.replies ≡ round_replies job.task.file setup.grant r.asks) one.0 [] so
-    (All-nil (λ (r : Round). r.replies ≡ round_replies job.task.file setup.grant r.asks)))
-
--- a log without a grant begins with no setup's turns
-no_setup : (outcome : VerifierOutcome) (log : List (Side × ℕ)) (setup : Setup) → IsUngranted outcome log → BeginsWith log (turn_bytes (setup_turns setup)) → ⊥
-no_setup outcome log setup is begins =
-    let answers : is.answer ≡ answered (setup_turns setup) ++ sent_by Verifier begins.0 =
-    sym (ap (sent_by Verifier) is.bytes ∙ answered_alone is.rest is.answer) ∙ ap (sent_by Verifier) begins.1 ∙ sent_by-append Verifier (turn_bytes (setup_turns setup)) begins.0
-    ∙ ap (λ l. l ++ sent_by Verifier begins.0) (sent_by-verifier (setup_turns setup)) in
-    let granted : slice_index_or is.answer 0 0 ≡ 2 = ap (λ l. slice_index_or l 0 0) answers in
-    elim is.refused [
-      | inl none ↦ absurd (omega (arith, ap (λ l. slice_index_or l 0 0) none, granted))
-      | inr refused ↦ absurd (omega (arith, ap (λ l. slice_index_or l 0 0) refused.2, granted))
-    ]
-
-told_replies : (job : VerifierJob) (granted : Option Span) (outcome : VerifierOutcome) (log : List (Side × ℕ)) (setup : Setup) → IsKnown job
-    → SendsRightly job granted outcome log → IsSetup job.task.file.params job.task.statement.program setup → BeginsWith log (turn_bytes (setup_turns setup))
-    → job.task.file.params.kind ≡ Extended → RepliesAre job.task.file setup
-told_replies job None outcome log setup known sends is begins extended = absurd (no_setup outcome log setup sends begins)
-told_replies job (Some span) outcome log setup known (inl sends) is begins extended =
-    served_replies job (granted_from job span.start) log setup known extended is begins sends
-told_replies job (Some span) outcome log setup known (inr refused) is begins extended = absurd (no_setup NoMemory log setup (record {
-  rest = hello_frame refused.1.0.hello;
-  few = greeting_within job known refused.1.0;
-  answer = refuse_frame 4;
-  refused = inr (4, refl, refl);
-  bytes = refused.1.1;
-}) begins)
-
--- ---- the keys
-
-pub keeps_keys : (job : VerifierJob) (granted : Option Span) (outcome : VerifierOutcome) (log : List (Side × ℕ)) → KeysFit → IsKnown job
-    → SendsRightly job granted outcome log → KeepsKeys job log
-keeps_keys job granted outcome log law known sends prover setup pairs is dealt set begins seen =
-    law prover job.task.file setup pairs is known.file dealt
-    (subst (λ (p : Params). AreRounds p setup.grant setup.rounds) (sym dealt.params)
-    (record { within = set.grant.within; count = set.round_count; each = set.rounds }))
-    (by_kind (either_kind job.task.file.params.kind)) seen
-  where
-    by_kind : ((job.task.file.params.kind ≡ Direct) ⊎ (job.task.file.params.kind ≡ Extended)) → RepliesAre job.task.file setup
-    by_kind (inl direct) = subst (All (λ (r : Round). r.replies ≡ round_replies job.task.file setup.grant r.asks))
-        (sym (nil_from_length setup.rounds (set.round_count ∙ ap rounds_of direct)))
-        (All-nil (λ (r : Round). r.replies ≡ round_replies job.task.file setup.grant r.asks))
-    by_kind (inr extended) = told_replies job granted outcome log setup known sends set begins extended
+pub is_told : (job : VerifierJob) (ending : Ending) (first now : LinkSnapshot) → RepliesAreInRange → ServedSessionExists → IsKnown job
+    → HasEnding job ending first now → IsTold job (granted_by (answer_at ending)) (outcome_at ending) first now
+is_told job (lacks_hello fault) first now ranges law known has =
+    told_stopped job None awaits_hello fault first now has (inl (sends_rightly job (lacks_hello fault) first now ranges law known has))
+    (λ answer count is. absurd (no_answer job _ _ answer is))
+is_told job (turns_away fault) first now ranges law known has =
+    told_refusal job None (session_outcome fault) (hello_code fault) has.said first now has.is (hello_refusal fault) (λ log begins. inr begins) has.refused
+is_told job (lacks_units fault) first now ranges law known has =
+    told_refusal job None (lease_outcome fault) (lease_code fault) has.greeting.hello first now (greeting_is_hello job known has.greeting)
+    (lease_refusal fault) (λ log begins. inr begins) has.refused
+is_told job (lacks_grant span) first now ranges law known has =
+    told_refusal job (Some span) NoMemory 4 has.1.greeting.hello first now (greeting_is_hello job known has.1.greeting) refl
+    (λ log begins. inr (refl, begins)) has.1.refused
+is_told job (loses_grant span fault) first now ranges law known has =
+    let hello = bytes_from Prover (hello_frame has.1.greeting.hello) in
+    told_part job (Some span) (line_outcome fault) hello (grant_frame (granted_from job span.start)) first now (fault_never fault has.1.lost.fault_is)
+    (λ count. inl (granted_part job span.start hello count ranges law known (begins_within job span has.0)
+    (record { greeting = has.1.greeting; bytes = refl }))) has.1.lost.lost
+is_told job (stops_behind span fault) first now ranges law known has =
+    told_stopped job (Some span) has.1.stage fault first now has.1.stopped (inl (sends_behind job span fault first now ranges law known has.1))
+    (λ answer count is. inl (due_part job span.start has.1.stage now.log has.1.stopped.comes answer count ranges law known has.1.behind is))
+is_told job (judges span found) first now ranges law known has =
+    told_whole job (Some span) (judgement_outcome found) first now has.1.well.told has.1.well.refused_sends
+    (inl (serves_judged job span found now.log (judged_session job span (Some span) found now.log known refl has.1.log)))
 
 -- A session with an honest peer does not stop: what came from it begins the frame that is expected, and it ends after it only.
 
@@ -519,7 +268,7 @@ record IsBegun (stage : Expect) (outcome : VerifierOutcome) (rest : List ℕ) : 
   allowed : Allows stage frame
   more : List ℕ
   begun : BeginsWith (frame_spelling frame ++ more) rest
-  whole : IsPeerEnd outcome → length (frame_spelling frame) ≤ length rest
+  whole : (at : ℕ) → outcome ≡ PeerEnded at → length (frame_spelling frame) ≤ length rest
   most : length rest ≤ length (frame_spelling frame)
   sized : frame_length stage rest ≤ length (frame_spelling frame)
 
@@ -533,22 +282,31 @@ abbrev IsComplete : VerifierOutcome → Type 0
 IsComplete outcome = (outcome ≡ Accepted) ⊎ (outcome ≡ NoMemory)
 
 -- with such bytes a session stops only for want of memory
-goes_on : (job : VerifierJob) (stage : VerifierStage) (rest : List ℕ) (first now : LinkSnapshot) (outcome : VerifierOutcome) (expect : Expect)
-    → verifier_expects job stage ≡ Some expect → IsBegun expect outcome rest
-    → ((differs : HelloDiffers) → outcome ≡ BadHello differs → StopCause job stage rest first now (BadHello differs) → ⊥)
-    → ¬ Rose first.faults now.faults → StopCause job stage rest first now outcome → IsComplete outcome
-goes_on job stage rest first now (PeerEnded at) expect expects is met rose cause =
-    let there = cause.0 in
-    let short = subst (λ p. length rest < frame_length p rest) (one_expected expect there.0 (verifier_expects job stage) expects there.1) there.2.1 in
-    absurd (omega (arith, short, is.whole tt, is.sized))
-goes_on job stage rest first now (BadFrame at) expect expects is met rose cause =
-    let there = cause.1 in
-    absurd (there.2.ends (subst (λ p. CanGoOn p (take (cause.0 + 1) rest)) (sym (one_expected expect there.0 (verifier_expects job stage) expects there.1))
-    (goes expect (BadFrame at) rest is (cause.0 + 1) (omega (arith, there.2.within)))))
-goes_on job stage rest first now (BadHello differs) expect expects is met rose cause = absurd (met differs refl cause)
-goes_on job stage rest first now Link expect expects is met rose cause = absurd (rose cause)
-goes_on job stage rest first now NoMemory expect expects is met rose cause = inr refl
-goes_on job stage rest first now other expect expects is met rose cause = absurd cause
+short_completes : (place : Expect) (rest : List ℕ) (log : List (Side × ℕ)) (fault : LineFault) (first now : LinkSnapshot)
+    → IsBegun place (line_outcome fault) rest → ¬ Rose first.faults now.faults → StopsShort Verifier log place rest fault first now
+    → IsComplete (line_outcome fault)
+short_completes place rest log (line.PeerEnded at) first now is rose short =
+    let cut = short.part.cut tt in
+    absurd (omega (arith, cut.short, is.whole at refl, is.sized))
+short_completes place rest log (line.BadFrame at) first now is rose short =
+    let bad = short.cause.1 in
+    absurd (bad.ends (goes place (BadFrame at) rest is (short.cause.0 + 1) (omega (arith, bad.within))))
+short_completes place rest log line.Link first now is rose short = absurd (rose (short.calls.failed refl))
+short_completes place rest log line.NoMemory first now is rose short = inr refl
+
+send_completes : (fault : LineFault) (first now : LinkSnapshot) → IsSendFault fault → CountsCalls fault first now → ¬ Rose first.faults now.faults
+    → IsComplete (line_outcome fault)
+send_completes line.Link first now is calls rose = absurd (rose (calls.failed refl))
+send_completes line.NoMemory first now is calls rose = inr refl
+send_completes other first now is calls rose = absurd is
+
+stop_completes : (job : VerifierJob) (stage : VerifierStage) (fault : LineFault) (first now : LinkSnapshot) (stopped : IsStopped job stage fault first now)
+    → IsBegun stopped.place (line_outcome fault) stopped.rest → ¬ Rose first.faults now.faults → IsComplete (line_outcome fault)
+stop_completes job stage fault first now stopped begun rose = elim stopped.why [
+  | inl short ↦ short_completes stopped.place stopped.rest now.log fault first now begun rose short
+  | inr (inl lacks) ↦ inr (ap line_outcome lacks.0)
+  | inr (inr unsent) ↦ send_completes fault first now unsent.2.fault_is unsent.2.calls rose
+]
 
 -- ---- the hello
 
@@ -558,37 +316,26 @@ hello_alone : (prover : ProverTask) (received sent : List ℕ) (turns : ℕ) →
 hello_alone prover received sent zero other after = after
 hello_alone prover received sent (suc n) other after = absurd (other (ap (λ (l : List ℕ). get_or l 0 0) after.4.1))
 
--- what a refusal, or nothing, stands after the hello's bytes
-record IsBehindHello (rest : List ℕ) (log : List (Side × ℕ)) : Type 0 where
-  answer : List ℕ
-  other : ¬ (get_or answer 0 0 ≡ 2)
-  bytes : log ≡ bytes_from Prover rest ++ bytes_from Verifier answer
-
-of_prover : (rest : List ℕ) (log : List (Side × ℕ)) → (is : IsBehindHello rest log) → sent_by Prover log ≡ rest
-of_prover rest log is =
-    ap (sent_by Prover) is.bytes ∙ came_same Verifier (bytes_from Prover rest) is.answer ∙ own_bytes Prover rest
-
-of_verifier : (rest : List ℕ) (log : List (Side × ℕ)) → (is : IsBehindHello rest log) → sent_by Verifier log ≡ is.answer
-of_verifier rest log is = ap (sent_by Verifier) is.bytes ∙ answered_alone rest is.answer
-
 -- the hello of the peer is the wanted one
 sent_hello : (job : VerifierJob) (prover : ProverTask) (rest sent : List ℕ) (log : List (Side × ℕ)) → AreCounterparts prover job.task
-    → IsBehindHello rest log → AreHonestBytes prover (sent_by Verifier log) sent
+    → log ≡ bytes_from Prover rest → AreHonestBytes prover (sent_by Verifier log) sent
     → sent ≡ hello_frame (wanted_hello job.task.file.id job.task.statement)
-sent_hello job prover rest sent log both behind bytes =
-    hello_alone prover (sent_by Verifier log) sent bytes.turns (subst (λ (l : List ℕ). ¬ (get_or l 0 0 ≡ 2)) (sym (of_verifier rest log behind)) behind.other) bytes.answer
+sent_hello job prover rest sent log both alone bytes =
+    let none : sent_by Verifier log ≡ [] = ap (sent_by Verifier) alone ∙ none_of_prover rest in
+    hello_alone prover (sent_by Verifier log) sent bytes.turns
+    (subst (λ (l : List ℕ). ¬ (get_or l 0 0 ≡ 2)) (sym none) (λ is. omega (arith, is))) bytes.answer
     ∙ (λ i. hello_frame (wanted_hello (both.dealt.id i) (both.statement i)))
 
 hello_begun : (job : VerifierJob) (prover : ProverTask) (outcome : VerifierOutcome) (rest : List ℕ) (log : List (Side × ℕ))
     → IsStatement job.task.statement
-    → HasHonestPeer job prover outcome log → IsBehindHello rest log → IsBegun expect.Hello outcome rest
-hello_begun job prover outcome rest log stated peer behind =
+    → HasHonestPeer job prover outcome log → log ≡ bytes_from Prover rest → IsBegun expect.Hello outcome rest
+hello_begun job prover outcome rest log stated peer alone =
     let wanted = wanted_hello job.task.file.id job.task.statement in
     let is : IsHello wanted = wanted_is_hello job.task.file.id job.task.statement peer.counterparts.verifier_file.id stated in
     let honest = peer.honest in
-    let came = of_prover rest log behind in
+    let came : sent_by Prover log ≡ rest = ap (sent_by Prover) alone ∙ own_bytes Prover rest in
     let begun : hello_frame wanted ≡ rest ++ honest.2.0 =
-    sym (sent_hello job prover rest honest.0 log peer.counterparts behind honest.1) ∙ honest.2.1 ∙ ap (λ l. l ++ honest.2.0) came in
+    sym (sent_hello job prover rest honest.0 log peer.counterparts alone honest.1) ∙ honest.2.1 ∙ ap (λ l. l ++ honest.2.0) came in
     let whole : length (hello_frame wanted) ≡ frame_length expect.Hello (hello_frame wanted) =
     whole_length expect.Hello (hello_frame wanted) (hello wanted) (record { allowed = (wanted, refl, is); spelled = refl }) in
     record {
@@ -596,45 +343,19 @@ hello_begun job prover outcome rest log stated peer behind =
       allowed = (wanted, refl, is);
       more = [];
       begun = (honest.2.0, append-nil (hello_frame wanted) ∙ begun);
-      whole = λ ended. omega (arith, ap length (sym came ∙ sent_hello job prover rest (sent_by Prover log) log peer.counterparts behind (peer.ended ended)));
+      whole = λ n ended. omega (arith, ap length (sym came ∙ sent_hello job prover rest (sent_by Prover log) log peer.counterparts alone (peer.ended n ended)));
       most = omega (arith, ap length begun, length-append rest honest.2.0);
       sized = omega (arith, whole, ap (frame_length expect.Hello) begun, grows expect.Hello rest honest.2.0);
     }
 
--- a session that asks for no units, and refuses no hello, stops before the whole hello of an honest peer of any job
-unmet_completes : (job mine : VerifierJob) (outcome : VerifierOutcome) (prover : ProverTask) (first now : LinkSnapshot)
-    → IsStatement mine.task.statement
-    → IsUnmet job outcome first now → HasHonestPeer mine prover outcome now.log → ((differs : HelloDiffers) → outcome ≡ BadHello differs → ⊥)
-    → ¬ Rose first.faults now.faults → IsComplete outcome
-unmet_completes job mine outcome prover first now stated unmet peer fits rose = by outcome unmet.stopped unmet.refused peer fits
-  where
-    mid : LinkSnapshot
-    mid = unmet.mid
-
-    -- nothing was answered
-    alone : (other : VerifierOutcome) → IsStopped job awaits_hello other first mid → now ≡ mid → HasHonestPeer mine prover other now.log
-        → ((differs : HelloDiffers) → other ≡ BadHello differs → ⊥) → IsComplete other
-    alone other stopped same peer unlike =
-        let behind : IsBehindHello stopped.rest now.log = record {
-          answer = [];
-          other = λ is. omega (arith, is);
-          bytes = ap (λ (m : LinkSnapshot). m.log) same ∙ stopped.log ∙ ap (λ l. l ++ bytes_from Prover stopped.rest) stopped.waited
-              ∙ sym (append-nil (bytes_from Prover stopped.rest));
-        } in
-        goes_on job awaits_hello stopped.rest first mid other expect.Hello refl
-        (hello_begun mine prover other stopped.rest now.log stated peer behind)
-        (λ differs is cause. unlike differs is)
-        (λ more. rose (subst (λ (m : LinkSnapshot). Rose first.faults m.faults) (sym same) more)) stopped.cause
-
-    by : (other : VerifierOutcome) → (stopped : IsStopped job awaits_hello other first mid) → RefusesHello stopped.rest other mid now
-        → HasHonestPeer mine prover other now.log → ((differs : HelloDiffers) → other ≡ BadHello differs → ⊥) → IsComplete other
-    by (PeerEnded at) stopped refused peer unlike = alone (PeerEnded at) stopped
-        (unrefused stopped.rest (PeerEnded at) mid now refused refl) peer unlike
-    by (BadFrame at) stopped refused peer unlike = alone (BadFrame at) stopped (unrefused stopped.rest (BadFrame at) mid now refused refl) peer unlike
-    by (BadHello differs) stopped refused peer unlike = absurd (unlike differs refl)
-    by Link stopped refused peer unlike = alone Link stopped (unrefused stopped.rest Link mid now refused refl) peer unlike
-    by NoMemory stopped refused peer unlike = inr refl
-    by other stopped refused peer unlike = absurd stopped.cause
+-- a session that stops at the hello does so before the whole one of an honest peer of any job
+first_completes : (job mine : VerifierJob) (fault : LineFault) (prover : ProverTask) (first now : LinkSnapshot) → IsStatement mine.task.statement
+    → IsStopped job awaits_hello fault first now → HasHonestPeer mine prover (line_outcome fault) now.log → ¬ Rose first.faults now.faults
+    → IsComplete (line_outcome fault)
+first_completes job mine fault prover first now stated stopped peer rose =
+    let begun = hello_begun mine prover (line_outcome fault) stopped.rest now.log stated peer (hello_bytes job now.log stopped.comes) in
+    stop_completes job awaits_hello fault first now stopped
+    (subst (λ p. IsBegun p (line_outcome fault) stopped.rest) (sym (one_expected expect.Hello stopped.place (Some expect.Hello) refl stopped.expected)) begun) rose
 
 -- ---- which statement the hello is for
 
@@ -657,7 +378,7 @@ hello_fits job prover said log stated both honest begins =
     let came : sent_by Prover log ≡ hello_frame said ++ later =
     ap (sent_by Prover) begins.1.1 ∙ sent_by-append Prover (bytes_from Prover (hello_frame said)) begins.1.0
     ∙ ap (λ l. l ++ later) (own_bytes Prover (hello_frame said)) in
-    let same : said ≡ wanted = (hello_code said wanted (later ++ honest.2.0) first.0 begins.0
+    let same : said ≡ wanted = (one_hello said wanted (later ++ honest.2.0) first.0 begins.0
     (wanted_is_hello prover.file.id prover.statement both.prover_file.id stated_too)
     (sym (append_assoc (hello_frame said) later honest.2.0) ∙ ap (λ l. l ++ honest.2.0) (sym came) ∙ sym honest.2.1 ∙ first.1)).0 in
     subst (IsHelloOf job) (sym same)
@@ -720,15 +441,18 @@ setup_long job start u is =
 second_said : (job : VerifierJob) (start : ℕ) (u : Transcript) → IsTurn job start u
     → said_in u (1 + rounds_of job.task.file.params.kind) ≡ corrections_frame u.commitment.corrections
 second_said job start u is =
-    ap (λ (turn : List ℕ × List ℕ). turn.0) (in_next (setup_turns u.commitment.setup) (corrections_frame u.commitment.corrections, challenge_frame u.challenge)
-    (sums_frame u.sums ++ openings_frame u.openings, verdict_frame u.code u.number) (1 + rounds_of job.task.file.params.kind) (setup_long job start u is)).2
+    ap (λ (turn : List ℕ × List ℕ). turn.0) (get_or_at (setup_turns u.commitment.setup) (corrections_frame u.commitment.corrections, challenge_frame u.challenge)
+    (last_turn u.sums u.openings u.code u.number ∷ []) ([], []) (1 + rounds_of job.task.file.params.kind) (setup_long job start u is))
 
 third_said : (job : VerifierJob) (start : ℕ) (u : Transcript) → IsTurn job start u
     → said_in u (2 + rounds_of job.task.file.params.kind) ≡ sums_frame u.sums ++ openings_frame u.openings
 third_said job start u is =
-    ap (λ (turn : List ℕ × List ℕ). turn.0) (in_last (setup_turns u.commitment.setup) (corrections_frame u.commitment.corrections, challenge_frame u.challenge)
-    (sums_frame u.sums ++ openings_frame u.openings, verdict_frame u.code u.number) (2 + rounds_of job.task.file.params.kind)
-    (omega (arith, setup_long job start u is))).2
+    let second : List ℕ × List ℕ = (corrections_frame u.commitment.corrections, challenge_frame u.challenge) in
+    let last = last_turn u.sums u.openings u.code u.number in
+    ap (λ (l : List (List ℕ × List ℕ)). (slice_index_or l (2 + rounds_of job.task.file.params.kind) ([], [])).0)
+    (sym (append_assoc (setup_turns u.commitment.setup) (second ∷ []) (last ∷ [])))
+    ∙ ap (λ (turn : List ℕ × List ℕ). turn.0) (get_or_at (setup_turns u.commitment.setup ++ second ∷ []) last [] ([], []) (2 + rounds_of job.task.file.params.kind)
+    (omega (arith, setup_long job start u is, length-append (setup_turns u.commitment.setup) (second ∷ []))))
 
 turns_served : (job : VerifierJob) (start whole : ℕ) (rest : List ℕ) (log : List (Side × ℕ)) → IsKnown job → (cut : IsCutOf job start whole rest log)
     → IsServedTurns job.task cut.session.t whole rest log
@@ -750,7 +474,7 @@ record IsSaid (job : VerifierJob) (start : ℕ) (outcome : VerifierOutcome) (who
   u : Transcript
   is : IsTurn job start u
   begun : BeginsWith (said_in u whole) rest
-  ended : IsPeerEnd outcome → (other : Transcript) × IsTurn job start other × (rest ≡ said_in other whole)
+  ended : (at : ℕ) → outcome ≡ PeerEnded at → (other : Transcript) × IsTurn job start other × (rest ≡ said_in other whole)
 
 honest_said : (job : VerifierJob) (start whole : ℕ) (rest : List ℕ) (prover : ProverTask) (outcome : VerifierOutcome) (log : List (Side × ℕ)) → HonestTurn → HonestTurnEnds
     → IsKnown job → HasHonestPeer job prover outcome log → IsCutOf job start whole rest log → IsSaid job start outcome whole rest
@@ -763,8 +487,8 @@ honest_said job start whole rest prover outcome log turn ends known peer cut =
       u = now.0;
       is = is_turn job start prover t whole now.0 peer.counterparts grant now.1;
       begun = now.2;
-      ended = λ is.
-          let last = ends prover job.task t whole rest log peer.counterparts peer.witness served (peer.ended is) in
+      ended = λ n is.
+          let last = ends prover job.task t whole rest log peer.counterparts peer.witness served (peer.ended n is) in
           (last.0, is_turn job start prover t whole last.0 peer.counterparts grant last.1, last.2);
     }
 
@@ -814,6 +538,24 @@ asks_long job u says =
     ap length says.spoken ∙ asks_length job.task.file.params.height job.task.file.params.trees says.all says.each
     ∙ ap (λ n. n * (5 + job.task.file.params.trees * (job.task.file.params.height + 8))) says.count
 
+-- What is said in a turn has a frame of this place behind so many bytes; as many came before these, which are no more than the frame, and
+-- no less where the peer ended.
+frame_begun : (place : Expect) (outcome : VerifierOutcome) (frame : Frame) (front before more rest tail : List ℕ) → Allows place frame
+    → frame_length place (frame_spelling frame) ≡ longest place → length front ≡ length before
+    → front ++ (frame_spelling frame ++ more) ≡ (before ++ rest) ++ tail → length rest ≤ longest place
+    → ((at : ℕ) → outcome ≡ PeerEnded at → longest place ≤ length rest) → IsBegun place outcome rest
+frame_begun place outcome frame front before more rest tail allowed fixed as_long said few ends =
+    let sized = whole_length place (frame_spelling frame) frame (record { allowed = allowed; spelled = refl }) ∙ fixed in
+    record {
+      frame = frame;
+      allowed = allowed;
+      more = more;
+      begun = (tail, (same_front front before (frame_spelling frame ++ more) (rest ++ tail) as_long (said ∙ append_assoc before rest tail)).1);
+      whole = λ n ended. omega (arith, sized, ends n ended);
+      most = omega (arith, sized, few);
+      sized = omega (arith, sized, frame_most place rest);
+    }
+
 asks_begun : (job : VerifierJob) (start : ℕ) (asked : List (List TreeAsk)) (outcome : VerifierOutcome) (rest : List ℕ) (left : ℕ) → AreAsksSoFar job asked
     → IsSaid job start outcome 1 (flat_map ask_frame asked ++ rest)
     → length rest ≤ longest (expect.Ask job.task.file.params.height job.task.file.params.trees left)
@@ -825,38 +567,34 @@ asks_begun job start asked outcome rest left so said few =
     let says : SaysAsks job said.u = asks_said job start said.u so.extended said.is in
     let below : n < length says.all = omega (arith, so.more, says.count) in
     let trees : List TreeAsk = slice_index_or says.all n [] in
-    let are : AreAsks params.height params.trees trees = says.each n [] below in
-    let sized : length (ask_frame trees) ≡ per = ask_length params.height params.trees trees are in
     let before : length (flat_map ask_frame asked) ≡ n * per = asks_length params.height params.trees asked so.each in
     let as_many : length (take n says.all) ≡ n = length-take-le n says.all (omega (arith, below)) in
-    let front : length (flat_map ask_frame (take n says.all)) ≡ length (flat_map ask_frame asked) =
-    asks_length params.height params.trees (take n says.all) (All-take (AreAsks params.height params.trees) n says.all says.each)
-    ∙ ap (λ k. k * per) as_many ∙ sym before in
-    let parted = same_front (flat_map ask_frame (take n says.all)) (flat_map ask_frame asked)
-    (ask_frame trees ++ flat_map ask_frame (drop (suc n) says.all)) (rest ++ said.begun.0) front
-    (sym (split_at ask_frame says.all n [] below) ∙ sym says.spoken ∙ said.begun.1 ∙ append_assoc (flat_map ask_frame asked) rest said.begun.0) in
-    record {
-      frame = asks trees;
-      allowed = (trees, refl, are);
-      more = flat_map ask_frame (drop (suc n) says.all);
-      begun = (said.begun.0, parted.1);
-      whole = λ ended.
-          let last = said.ended ended in
-          let spoken = asks_said job start last.0 so.extended last.1 in
-          let same : n * per + length rest ≡ units_of_job job * per =
-          ap (λ k. k + length rest) (sym before) ∙ sym (length-append (flat_map ask_frame asked) rest) ∙ ap length last.2 ∙ asks_long job last.0 spoken in
-          subst (λ k. k ≤ length rest) (sym sized) (one_left n (units_of_job job) per (length rest) so.more same);
-      most = subst (λ k. length rest ≤ k) (sym sized) few;
-      sized = omega (arith, sized);
-    }
+    frame_begun (expect.Ask params.height params.trees left) outcome (asks trees) (flat_map ask_frame (take n says.all)) (flat_map ask_frame asked)
+    (flat_map ask_frame (drop (suc n) says.all)) rest said.begun.0 (trees, refl, says.each n [] below) refl
+    (asks_length params.height params.trees (take n says.all) (All-take (AreAsks params.height params.trees) n says.all says.each)
+    ∙ ap (λ k. k * per) as_many ∙ sym before)
+    (sym (split_at ask_frame says.all n [] below) ∙ sym says.spoken ∙ said.begun.1) few
+    (λ k ended.
+    let last = said.ended k ended in
+    let same : n * per + length rest ≡ units_of_job job * per =
+    ap (λ l. l + length rest) (sym before) ∙ sym (length-append (flat_map ask_frame asked) rest) ∙ ap length last.2
+    ∙ asks_long job last.0 (asks_said job start last.0 so.extended last.1) in
+    one_left n (units_of_job job) per (length rest) so.more same)
 
 -- ---- after them
 
-length_third : (job : VerifierJob) (start : ℕ) (u : Transcript) → IsTurn job start u
-    → (length (sums_frame u.sums) ≡ 5 + 16 * section_count job.task.statement.program job.section_length)
-    × (length (openings_frame u.openings) ≡ 5 + 8 * length job.task.statement.program.opened)
-length_third job start u is =
-    (length_sums u.sums ∙ ap (λ n. 5 + 16 * n) is.pairs.counted, length_openings u.openings ∙ ap (λ n. 5 + 8 * n) is.macs.counted)
+-- how long what is said in each turn is
+second_long : (job : VerifierJob) (start : ℕ) (u : Transcript) → IsTurn job start u
+    → length (said_in u (1 + rounds_of job.task.file.params.kind)) ≡ 5 + 8 * job.task.statement.program.givens
+second_long job start u is =
+    ap length (second_said job start u is) ∙ length_corrections u.commitment.corrections ∙ ap (λ n. 5 + 8 * n) is.elements.counted
+
+third_long : (job : VerifierJob) (start : ℕ) (u : Transcript) → IsTurn job start u
+    → length (said_in u (2 + rounds_of job.task.file.params.kind))
+    ≡ 5 + 16 * section_count job.task.statement.program job.section_length + (5 + 8 * length job.task.statement.program.opened)
+third_long job start u is =
+    ap length (third_said job start u is) ∙ length-append (sums_frame u.sums) (openings_frame u.openings)
+    ∙ (λ i. (length_sums u.sums ∙ ap (λ n. 5 + 16 * n) is.pairs.counted) i + (length_openings u.openings ∙ ap (λ n. 5 + 8 * n) is.macs.counted) i)
 
 corrections_begun : (job : VerifierJob) (start : ℕ) (outcome : VerifierOutcome) (rest : List ℕ)
     → IsSaid job start outcome (1 + rounds_of job.task.file.params.kind) rest
@@ -864,20 +602,9 @@ corrections_begun : (job : VerifierJob) (start : ℕ) (outcome : VerifierOutcome
     → IsBegun (expect.Corrections job.task.statement.program.givens) outcome rest
 corrections_begun job start outcome rest said few =
     let d = said.u.commitment.corrections in
-    let sized = length_corrections d ∙ ap (λ n. 5 + 8 * n) said.is.elements.counted in
-    record {
-      frame = corrections d;
-      allowed = (d, refl, said.is.elements);
-      more = [];
-      begun = (said.begun.0, append-nil (corrections_frame d) ∙ sym (second_said job start said.u said.is) ∙ said.begun.1);
-      whole = λ ended.
-          let last = said.ended ended in
-          let same = ap length (last.2 ∙ second_said job start last.0 last.1) ∙ length_corrections last.0.commitment.corrections
-          ∙ ap (λ n. 5 + 8 * n) last.1.elements.counted in
-          omega (arith, same, sized);
-      most = omega (arith, few, sized);
-      sized = omega (arith, sized);
-    }
+    frame_begun (expect.Corrections job.task.statement.program.givens) outcome (corrections d) [] [] [] rest said.begun.0 (d, refl, said.is.elements) refl refl
+    (append-nil (corrections_frame d) ∙ sym (second_said job start said.u said.is) ∙ said.begun.1) few
+    (λ n ended. let last = said.ended n ended in omega (arith, ap length last.2, second_long job start last.0 last.1))
 
 sums_begun : (job : VerifierJob) (start : ℕ) (outcome : VerifierOutcome) (rest : List ℕ)
     → IsSaid job start outcome (2 + rounds_of job.task.file.params.kind) rest
@@ -885,19 +612,9 @@ sums_begun : (job : VerifierJob) (start : ℕ) (outcome : VerifierOutcome) (rest
     → IsBegun (expect.Sums (section_count job.task.statement.program job.section_length)) outcome rest
 sums_begun job start outcome rest said few =
     let both = said.u.sums in
-    let sized = (length_third job start said.u said.is).0 in
-    record {
-      frame = sums both;
-      allowed = (both, refl, said.is.pairs);
-      more = openings_frame said.u.openings;
-      begun = (said.begun.0, sym (third_said job start said.u said.is) ∙ said.begun.1);
-      whole = λ ended.
-          let last = said.ended ended in
-          let same = ap length (last.2 ∙ third_said job start last.0 last.1) ∙ length-append (sums_frame last.0.sums) (openings_frame last.0.openings) in
-          omega (arith, same, (length_third job start last.0 last.1).0, sized);
-      most = omega (arith, few, sized);
-      sized = omega (arith, sized);
-    }
+    frame_begun (expect.Sums (section_count job.task.statement.program job.section_length)) outcome (sums both) [] [] (openings_frame said.u.openings) rest
+    said.begun.0 (both, refl, said.is.pairs) refl refl (sym (third_said job start said.u said.is) ∙ said.begun.1) few
+    (λ n ended. let last = said.ended n ended in omega (arith, ap length last.2, third_long job start last.0 last.1))
 
 openings_begun : (job : VerifierJob) (start : ℕ) (outcome : VerifierOutcome) (both : List (ℕ × ℕ)) (rest : List ℕ)
     → AreSums (section_count job.task.statement.program job.section_length) both
@@ -906,76 +623,51 @@ openings_begun : (job : VerifierJob) (start : ℕ) (outcome : VerifierOutcome) (
     → IsBegun (expect.Openings (length job.task.statement.program.opened)) outcome rest
 openings_begun job start outcome both rest pairs said few =
     let macs = said.u.openings in
-    let third = length_third job start said.u said.is in
-    let sized = third.1 in
-    let n = length (sums_frame both) in
-    let before : n ≡ 5 + 16 * section_count job.task.statement.program job.section_length = length_sums both ∙ ap (λ k. 5 + 16 * k) pairs.counted in
-    record {
-      frame = openings macs;
-      allowed = (macs, refl, said.is.macs);
-      more = [];
-      begun = (
-        said.begun.0,
-        append-nil (openings_frame macs)
-            ∙ sym (drop_at (sums_frame said.u.sums) (openings_frame macs) n (third.0 ∙ sym before))
-            ∙ ap (drop n) (sym (third_said job start said.u said.is) ∙ said.begun.1 ∙ append_assoc (sums_frame both) rest said.begun.0)
-            ∙ drop_at (sums_frame both) (rest ++ said.begun.0) n refl,
-      );
-      whole = λ ended.
-          let last = said.ended ended in
-          let same = sym (length-append (sums_frame both) rest) ∙ ap length (last.2 ∙ third_said job start last.0 last.1)
-          ∙ length-append (sums_frame last.0.sums) (openings_frame last.0.openings) in
-          let others = length_third job start last.0 last.1 in
-          omega (arith, same, others.0, others.1, before, sized);
-      most = omega (arith, few, sized);
-      sized = omega (arith, sized);
-    }
+    let before : length (sums_frame both) ≡ 5 + 16 * section_count job.task.statement.program job.section_length =
+    length_sums both ∙ ap (λ k. 5 + 16 * k) pairs.counted in
+    frame_begun (expect.Openings (length job.task.statement.program.opened)) outcome (openings macs) (sums_frame said.u.sums) (sums_frame both) [] rest
+    said.begun.0 (macs, refl, said.is.macs) refl (length_sums said.u.sums ∙ ap (λ n. 5 + 16 * n) said.is.pairs.counted ∙ sym before)
+    (ap (λ l. sums_frame said.u.sums ++ l) (append-nil (openings_frame macs)) ∙ sym (third_said job start said.u said.is) ∙ said.begun.1) few
+    (λ n ended.
+    let last = said.ended n ended in
+    omega (arith, ap length last.2, length-append (sums_frame both) rest, third_long job start last.0 last.1, before))
 
 -- a session that stopped in a turn that was cut, where what came begins the frame that is expected
-stopped_completes : (job : VerifierJob) (start : ℕ) (stage : VerifierStage) (place : Expect) (whole : ℕ) (bytes : List ℕ) (prover : ProverTask) (outcome : VerifierOutcome)
-    (first now : LinkSnapshot) → HonestTurn → HonestTurnEnds → IsKnown job → IsBehind start stage → (stopped : IsStopped job stage outcome first now)
-    → HasHonestPeer job prover outcome now.log → ¬ Rose first.faults now.faults → verifier_expects job stage ≡ Some place
+stopped_completes : (job : VerifierJob) (start : ℕ) (stage : VerifierStage) (place : Expect) (whole : ℕ) (bytes : List ℕ) (prover : ProverTask) (fault : LineFault)
+    (first now : LinkSnapshot) → HonestTurn → HonestTurnEnds → IsKnown job → (stopped : IsStopped job stage fault first now)
+    → HasHonestPeer job prover (line_outcome fault) now.log → ¬ Rose first.faults now.faults → verifier_expects job stage ≡ Some place
     → IsCutOf job start whole bytes now.log
-    → (IsSaid job start outcome whole bytes → length stopped.rest ≤ longest place → IsBegun place outcome stopped.rest) → IsComplete outcome
-stopped_completes job start stage place whole bytes prover outcome first now turn ends known starts stopped peer rose expects cut begun =
-    goes_on job stage stopped.rest first now outcome place expects
-    (begun (honest_said job start whole bytes prover outcome now.log turn ends known peer cut) (few_of job stage outcome first now stopped place expects))
-    (λ differs is cause. subst (IsBehind start) cause.0 starts) rose stopped.cause
+    → (IsSaid job start (line_outcome fault) whole bytes → length stopped.rest ≤ longest place → IsBegun place (line_outcome fault) stopped.rest)
+    → IsComplete (line_outcome fault)
+stopped_completes job start stage place whole bytes prover fault first now turn ends known stopped peer rose expects cut begun =
+    stop_completes job stage fault first now stopped
+    (subst (λ p. IsBegun p (line_outcome fault) stopped.rest) (one_expected stopped.place place (verifier_expects job stage) stopped.expected expects)
+    (begun (honest_said job start whole bytes prover (line_outcome fault) now.log turn ends known peer cut) (few_of job stage now.log stopped.comes place expects)))
+    rose
 
-behind_completes : (job : VerifierJob) (start : ℕ) (stage : VerifierStage) (prover : ProverTask) (outcome : VerifierOutcome) (first now : LinkSnapshot)
+behind_completes : (job : VerifierJob) (start : ℕ) (stage : VerifierStage) (prover : ProverTask) (fault : LineFault) (first now : LinkSnapshot)
     → RepliesAreInRange → ServedSessionExists → HonestTurn → HonestTurnEnds → IsKnown job → IsBehind start stage
-    → IsStopped job stage outcome first now → HasHonestPeer job prover outcome now.log → ¬ Rose first.faults now.faults → IsComplete outcome
-behind_completes job start (awaits_asks begun asked) prover outcome first now ranges law turn ends known starts stopped peer rose =
-    stopped_completes job begun (awaits_asks begun asked) _ 1 (flat_map ask_frame asked ++ stopped.rest) prover outcome first now turn ends known refl stopped peer rose refl
-    (cut_asks job begun asked stopped.rest now.log ranges law known (cut_of_stop job (awaits_asks begun asked) outcome first now stopped))
-    (asks_begun job begun asked outcome stopped.rest (units_of_job job - length asked) stopped.waited.so_far)
-behind_completes job start (awaits_corrections begun) prover outcome first now ranges law turn ends known starts stopped peer rose =
-    stopped_completes job begun (awaits_corrections begun) _ _ stopped.rest prover outcome first now turn ends known refl stopped peer rose refl
-    (cut_corrections job begun stopped.rest now.log law known (cut_of_stop job (awaits_corrections begun) outcome first now stopped))
-    (corrections_begun job begun outcome stopped.rest)
-behind_completes job start (awaits_sums begun d) prover outcome first now ranges law turn ends known starts stopped peer rose =
-    stopped_completes job begun (awaits_sums begun d) _ _ stopped.rest prover outcome first now turn ends known refl stopped peer rose refl
-    (cut_sums job begun d stopped.rest now.log law known (cut_of_stop job (awaits_sums begun d) outcome first now stopped))
-    (sums_begun job begun outcome stopped.rest)
-behind_completes job start (awaits_openings begun d both) prover outcome first now ranges law turn ends known starts stopped peer rose =
-    stopped_completes job begun (awaits_openings begun d both) _ _ (sums_frame both ++ stopped.rest) prover outcome first now turn ends known refl stopped peer rose refl
-    (cut_openings job begun d both stopped.rest now.log law known (cut_of_stop job (awaits_openings begun d both) outcome first now stopped))
-    (openings_begun job begun outcome both stopped.rest stopped.waited.1)
-behind_completes job start (has_judged begun judgement) prover outcome first now ranges law turn ends known starts stopped peer rose =
+    → IsStopped job stage fault first now → HasHonestPeer job prover (line_outcome fault) now.log → ¬ Rose first.faults now.faults
+    → IsComplete (line_outcome fault)
+behind_completes job start (awaits_asks begun asked) prover fault first now ranges law turn ends known starts stopped peer rose =
+    stopped_completes job begun (awaits_asks begun asked) _ 1 (flat_map ask_frame asked ++ stopped.rest) prover fault first now turn ends known stopped peer rose refl
+    (cut_asks job begun asked stopped.rest now.log ranges law known (cut_of_stop job (awaits_asks begun asked) now.log stopped.comes))
+    (asks_begun job begun asked (line_outcome fault) stopped.rest (units_of_job job - length asked) stopped.waited.0)
+behind_completes job start (awaits_corrections begun) prover fault first now ranges law turn ends known starts stopped peer rose =
+    stopped_completes job begun (awaits_corrections begun) _ _ stopped.rest prover fault first now turn ends known stopped peer rose refl
+    (cut_corrections job begun stopped.rest now.log law known (cut_of_stop job (awaits_corrections begun) now.log stopped.comes))
+    (corrections_begun job begun (line_outcome fault) stopped.rest)
+behind_completes job start (awaits_sums begun d) prover fault first now ranges law turn ends known starts stopped peer rose =
+    stopped_completes job begun (awaits_sums begun d) _ _ stopped.rest prover fault first now turn ends known stopped peer rose refl
+    (cut_sums job begun d stopped.rest now.log law known (cut_of_stop job (awaits_sums begun d) now.log stopped.comes))
+    (sums_begun job begun (line_outcome fault) stopped.rest)
+behind_completes job start (awaits_openings begun d both) prover fault first now ranges law turn ends known starts stopped peer rose =
+    stopped_completes job begun (awaits_openings begun d both) _ _ (sums_frame both ++ stopped.rest) prover fault first now turn ends known stopped peer rose refl
+    (cut_openings job begun d both stopped.rest now.log law known (cut_of_stop job (awaits_openings begun d both) now.log stopped.comes))
+    (openings_begun job begun (line_outcome fault) both stopped.rest stopped.waited.1)
+behind_completes job start (has_judged begun judgement) prover fault first now ranges law turn ends known starts stopped peer rose =
     absurd (none_is_some stopped.expected)
-behind_completes job start other prover outcome first now ranges law turn ends known starts stopped peer rose = absurd starts
-
--- the grant was not sent
-fault_completes : (outcome : VerifierOutcome) (first now : LinkSnapshot) → IsFault outcome → (outcome ≡ Link → Rose first.faults now.faults)
-    → ¬ Rose first.faults now.faults → IsComplete outcome
-fault_completes Link first now is cause rose = absurd (rose (cause refl))
-fault_completes NoMemory first now is cause rose = inr refl
-fault_completes other first now is cause rose = absurd is
-
-lacking_completes : (job : VerifierJob) (start : ℕ) (outcome : VerifierOutcome) (first now : LinkSnapshot) → ¬ Rose first.faults now.faults
-    → LacksTheGrant job start outcome first now → IsComplete outcome
-lacking_completes job start outcome first now rose (inl refused) = inr refused.0
-lacking_completes job start outcome first now rose (inr unsent) = fault_completes outcome first now unsent.fault unsent.cause rose
+behind_completes job start other prover fault first now ranges law turn ends known starts stopped peer rose = absurd starts
 
 -- ---- the whole session
 
@@ -987,41 +679,38 @@ pub record AreLaws : Type 0 where
   pub ends : HonestTurnEnds
   pub accepted : HonestWholeIsAccepted
 
--- units were leased for a job of which the peer is honest
-granted_completes : (job : VerifierJob) (span : Span) (outcome : VerifierOutcome) (prover : ProverTask) (first now : LinkSnapshot) → AreLaws
-    → IsKnown job
-    → IsGranted job span outcome first now → HasHonestPeer job prover outcome now.log → ¬ Rose first.faults now.faults → IsComplete outcome
-granted_completes job span outcome prover first now laws known granted peer rose = elim granted.course [
-  | inl lacks ↦ lacking_completes job span.start outcome first now rose lacks
-  | inr (inl stops) ↦
-      behind_completes job span.start stops.stage prover outcome first now laws.ranges laws.exists laws.turn laws.ends known stops.behind stops.stopped peer rose
-  | inr (inr found) ↦
-      let session = judged_session job span (Some span) found.0 now.log known refl found.2.log in
-      let accepted = laws.accepted prover job.task session.t (verdict_in found.0) now.log peer.counterparts peer.witness peer.claims session.served peer.honest in
-      inl (found.1 ∙ accepted_judgement found.0 (ap verdict_code accepted))
-]
-
-pub completes : (jobs : VerifierJobs) (taken : Option ℕ) (answer : Option (Result Span LeaseFault)) (granted : Option Span)
-    (outcome : VerifierOutcome)
-    (first now : LinkSnapshot) → AreLaws → AllBelow (length (all_jobs jobs)) (λ n. IsStatement (job_at jobs n).task.statement)
-    → IsKnown (noted_job jobs taken) → TakesStatement jobs taken answer outcome now.log
-    → IsCourse (noted_job jobs taken) answer granted outcome first now
-    → CompletesForEach jobs answer outcome first now
-completes jobs taken None granted outcome first now laws stated known takes course prover caller leased rose =
-    let mine = stated caller.number caller.first.within in
-    unmet_completes (noted_job jobs taken) (job_at jobs caller.number) outcome prover first now mine course.1 caller.peer
-    (λ differs is.
-    let met = takes.differs differs is in
-    met.1.1 caller.number caller.first.within
-    (hello_fits (job_at jobs caller.number) prover met.1.0 now.log mine caller.peer.counterparts caller.peer.honest met.1.2)) rose
-completes jobs taken (Some (Err fault)) granted outcome first now laws stated known takes course prover caller leased rose =
-    absurd (leased fault refl)
-completes jobs None (Some (Ok span)) granted outcome first now laws stated known takes course prover caller leased rose =
-    absurd (none_is_some (sym (takes.none refl)))
-completes jobs (Some m) (Some (Ok span)) granted outcome first now laws stated known takes course prover caller leased rose =
-    let mine = stated caller.number caller.first.within in
+-- where a statement was taken it is the caller's
+same_number : (jobs : VerifierJobs) (taken : Option ℕ) (answer : Option (Result Span LeaseFault)) (span : Span) (outcome : VerifierOutcome) (prover : ProverTask)
+    (log : List (Side × ℕ)) → AllBelow (length (all_jobs jobs)) (λ n. IsStatement (job_at jobs n).task.statement) → TakesStatement jobs taken answer outcome log
+    → answer ≡ Some (Ok span) → (caller : HasHonestCaller jobs prover outcome log) → HasHonestPeer (noted_job jobs taken) prover outcome log
+same_number jobs None answer span outcome prover log stated takes leased caller = absurd (none_is_some (sym (takes.none refl) ∙ leased))
+same_number jobs (Some m) answer span outcome prover log stated takes leased caller =
     let has = takes.has in
     let same : m ≡ caller.number = one_taken jobs m caller.number has.0 caller.hello has.1 caller.first
-    (hello_fits (job_at jobs caller.number) prover has.0 now.log mine caller.peer.counterparts caller.peer.honest has.2) in
-    granted_completes (job_at jobs m) span outcome prover first now laws known course.1
-    (subst (λ n. HasHonestPeer (job_at jobs n) prover outcome now.log) (sym same) caller.peer) rose
+    (hello_fits (job_at jobs caller.number) prover has.0 log (stated caller.number caller.first.within) caller.peer.counterparts caller.peer.honest has.2) in
+    subst (λ n. HasHonestPeer (job_at jobs n) prover outcome log) (sym same) caller.peer
+
+pub completes : (jobs : VerifierJobs) (taken : Option ℕ) (ending : Ending) (first now : LinkSnapshot) → AreLaws
+    → AllBelow (length (all_jobs jobs)) (λ n. IsStatement (job_at jobs n).task.statement)
+    → IsKnown (noted_job jobs taken) → TakesStatement jobs taken (answer_at ending) (outcome_at ending) now.log
+    → HasEnding (noted_job jobs taken) ending first now → CompletesForEach jobs (answer_at ending) (outcome_at ending) first now
+completes jobs taken (lacks_hello fault) first now laws stated known takes has prover caller leased rose =
+    first_completes (noted_job jobs taken) (job_at jobs caller.number) fault prover first now (stated caller.number caller.first.within) has caller.peer rose
+completes jobs taken (turns_away (session.BadHello differs)) first now laws stated known takes has prover caller leased rose =
+    let met = takes.differs differs refl in
+    absurd (met.1.1 caller.number caller.first.within
+    (hello_fits (job_at jobs caller.number) prover met.1.0 now.log (stated caller.number caller.first.within) caller.peer.counterparts caller.peer.honest met.1.2))
+completes jobs taken (turns_away session.NoMemory) first now laws stated known takes has prover caller leased rose = inr refl
+completes jobs taken (lacks_units fault) first now laws stated known takes has prover caller leased rose = absurd (leased fault refl)
+completes jobs taken (lacks_grant span) first now laws stated known takes has prover caller leased rose = inr refl
+completes jobs taken (loses_grant span fault) first now laws stated known takes has prover caller leased rose =
+    send_completes fault first now has.1.lost.fault_is has.1.lost.calls rose
+completes jobs taken (stops_behind span fault) first now laws stated known takes has prover caller leased rose =
+    behind_completes (noted_job jobs taken) span.start has.1.stage prover fault first now laws.ranges laws.exists laws.turn laws.ends known has.1.behind
+    has.1.stopped (same_number jobs taken (Some (Ok span)) span (line_outcome fault) prover now.log stated takes refl caller) rose
+completes jobs taken (judges span found) first now laws stated known takes has prover caller leased rose =
+    let peer = same_number jobs taken (Some (Ok span)) span (judgement_outcome found) prover now.log stated takes refl caller in
+    let job = noted_job jobs taken in
+    let session = judged_session job span (Some span) found now.log known refl has.1.log in
+    let accepted = laws.accepted prover job.task session.t (verdict_in found) now.log peer.counterparts peer.witness peer.claims session.served peer.honest in
+    inl (accepted_judgement found (ap verdict_code accepted))

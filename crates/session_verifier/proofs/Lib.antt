@@ -1,4 +1,5 @@
 pub mod StageLemmas
+pub mod Cuts
 pub mod ServeLemmas
 pub mod CourseLemmas
 pub mod HonestLemmas

@@ -6,7 +6,7 @@ use Rattle.zk_model.specs.declared.Span.{Span}
 use Rattle.zk_port.specs.Changes.{change}
 use Rattle.zk_port.specs.Files.{Files, StandsAs}
 use Rattle.zk_port.specs.Shelves.{ShelfState}
-use Rattle.file_commands.specs.Effects.{CountsStay, IsName, NameFailed, OnlyStores, OthersStay, ShelfChange, SomeFailed}
+use Rattle.file_commands.specs.Effects.{CountsStay, IsName, NameFailed, OnlyStores, OtherNamesStay, SomeFailed}
 use Rattle.file_commands.proofs.Asking.{asks_among}
 use Rattle.file_commands.proofs.Storing.{only_stores, stores_nothing}
 use Rattle.session_verifier.specs.declared.note.SessionNote.{SessionNote}
@@ -19,7 +19,7 @@ off = true≢false
 -- ---- what stands under a name
 
 -- where nothing but one name is changed, what stands under another stands on
-stands_on : (one name bytes : List ℕ) (a b : Option Files) → OthersStay (IsName one) a b → name ≢ one → StandsAs a name bytes → StandsAs b name bytes
+stands_on : (one name bytes : List ℕ) (a b : Option Files) → OtherNamesStay (IsName one) a b → name ≢ one → StandsAs a name bytes → StandsAs b name bytes
 stands_on one name bytes None b same apart stands = subst (λ (told : Option Files). StandsAs told name bytes) (sym same) tt
 stands_on one name bytes (Some files) None same apart stands = absurd same
 stands_on one name bytes (Some files) (Some more) same apart stands = same name apart ∙ stands
@@ -93,7 +93,7 @@ stores_among IsNamed IsOther a b among stores = record {
   asked = asks_among IsNamed IsOther (change a b) among stores.asked;
 }
   where
-    stay : (old new : Option Files) → OthersStay IsNamed old new → OthersStay IsOther old new
+    stay : (old new : Option Files) → OtherNamesStay IsNamed old new → OtherNamesStay IsOther old new
     stay None new same = same
     stay (Some files) None same = absurd same
     stay (Some files) (Some more) same = λ other apart. same other (λ is. apart (among other is))
@@ -218,7 +218,3 @@ keeps_logs {L} prefix notes a b c f g settles tried = record {
       | inr (inl failed) ↦ inr (inl (failed_since (log_name prefix s.start) a b c failed tried.kept.asked.later))
       | inr (inr lacked) ↦ inr (inr lacked)
     ]
-
--- where none are to be kept
-pub keeps_no_logs : {L : Type 0} (notes : List (SessionNote L)) (shelf : ShelfChange) (f : LogFaults) → TriesLogs None shelf f.failed → KeepsLogs None notes shelf f
-keeps_no_logs notes shelf f tried = record { tried = tried; each = tt; all = λ on calm. tt }

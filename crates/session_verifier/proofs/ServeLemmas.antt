@@ -1,5 +1,5 @@
 -- From a run of a verifier's end to the course of its session.
-use Rattle.std.proofs.Common.{◌≡◌, ◌⊎◌, ℕ, ◌<◌, length, List, [], ◌∷◌, ◌++◌, flat_map, inl, inr, Option, Some, None, IfSome, Result, Ok, Err, MatchOption, refl, ap, sym, ◌∙◌, subst, arith, append-nil, append_assoc}
+use Rattle.std.proofs.Common.{◌≡◌, ◌⊎◌, ℕ, ◌<◌, length, List, [], ◌∷◌, ◌++◌, flat_map, inl, inr, Option, Some, None, IfSome, Result, Ok, Err, MatchOption, refl, ap, sym, ◌∙◌, subst, arith, append-nil, append_assoc, ◌≤◌}
 use Rattle.std.proofs.lemmas.Option.{same_Some}
 use Rattle.std.specs.Prelude.{IsSome}
 use Rattle.zk_model.specs.Transcript.{grant_frame, bytes_from, Hello, IsHello, hello_frame, refuse_frame}
@@ -11,7 +11,6 @@ use Rattle.zk_model.specs.declared.Span.{Span}
 use Rattle.frame_link.specs.declared.fault.LineFault.{LineFault}
 use Rattle.frame_link.specs.declared.fault.LineFault.TheVariants as fault
 use Rattle.frame_link.proofs.LineLemmas.{none_is_some}
-use Rattle.frame_link.specs.Lines.{LineState, IsSendRefused, snapshot_of}
 use Rattle.lease_store.specs.declared.LeaseFault.{LeaseFault}
 use Rattle.session_core.specs.declared.fault.VerifierFault.{VerifierFault}
 use Rattle.session_core.specs.declared.fault.VerifierFault.TheVariants as session
@@ -22,19 +21,22 @@ use Rattle.session_core.specs.declared.fault.HelloDiffers.{HelloDiffers}
 use Rattle.session_core.specs.declared.fault.HelloDiffers.TheVariants as hello_differs
 use Rattle.session_core.specs.declared.judgement.Judgement.TheVariants as judged
 use Rattle.lease_store.specs.declared.LeaseFault.TheVariants as no_lease
-use Rattle.session_driver.specs.Runs.{Turn, said, whole_log, sends_of, answers_sent, sends_in, HasPassed, IsTurn, Goes, IsOver, IsRefusal, IsMissing, IsUnanswered, IsUnsent, StopsBy, TriesRefusal, IsRun}
+use Rattle.session_driver.specs.Runs.{Turn, said, whole_log, IsTurn, Goes}
 use Rattle.session_driver.specs.declared.drive.Outcome.{Outcome}
 use Rattle.session_driver.specs.declared.drive.Outcome.TheVariants.{Done, Refused, Cut}
-use Rattle.session_driver.proofs.Going.{whole_more, answers_more, goes_keeps}
+use Rattle.session_driver.proofs.Going.{whole_more, goes_keeps}
 use Rattle.session_laws.specs.Rounds.{RepliesAreInRange}
 use Rattle.session_verifier.specs.Outcomes.{lease_code, line_outcome, hello_code, judgement_outcome, lease_outcome, session_outcome}
-use Rattle.session_verifier.specs.Serving.{Grants, Leases, AreUnits, Served, Met, Greeted, GrantsUnits, AnswersBehind, Answers, Refuses, RefusesHello, RefusesBehind, RefusesLease, LacksGrantFrame, IsToldAs, lack_code_at, served, serves}
-use Rattle.session_verifier.specs.Stages.{IsBehind, Greets, IsLogAt, IsStopped, StopsBehind, IsUnmet, IsRefusedGrant, LacksTheGrant, IsWaiting, IsCourse, answers_before}
+use Rattle.session_verifier.specs.Serving.{Grants, Leases, Served, Met, Greeted, GrantsUnits, AnswersBehind, Answers, Refuses, RefusesHello, RefusesBehind, RefusesLease, LacksGrantFrame, IsToldAs, lack_code_at, served, serves}
+use Rattle.session_verifier.specs.Stages.{IsBehind, Greets, IsLogAt, IsStopped, IsRefusedGrant, IsCourse, RefusesAfter, Ending, HasEnding, answer_at, outcome_at, lacks_hello, turns_away, lacks_units, lacks_grant, loses_grant, stops_behind, judges, AreUnits}
 use Rattle.session_verifier.specs.Notes.{HasTaken, BeginsByHello, TakesStatement}
 use Rattle.session_verifier.specs.declared.note.VerifierOutcome.{VerifierOutcome}
 use Rattle.session_verifier.specs.declared.note.VerifierOutcome.TheVariants.{BadHello, NoMemory}
 use Rattle.session_verifier.proofs.CourseLemmas.{begins_before}
-use Rattle.session_verifier.proofs.StageLemmas.{one_answer, logs_on, grant_behind, answers_counted, one_answer_behind, grant_begins, stays_behind, judged_of, hello_in, ours, waiting_of, stops_without, stops_refused, stops_unsent, grant_unsent, refusal_tried, unmet_missing, unmet_refused}
+use Rattle.session_verifier.proofs.StageLemmas.{one_answer, logs_on, grant_behind, grant_begins, stays_behind, judged_of, hello_in, stops_without, stops_unsent, stops_lacking}
+use Rattle.session_driver.specs.Leaving.{Finishes, GoesWell, Halts, IsLostBy, KeepsAnswer, KeepsBack, PartyLeaves, Misses, TriesCode, TurnsDown}
+use Rattle.frame_link.specs.Lines.{LinkSnapshot}
+use Rattle.session_pool.specs.Notes.{granted_by}
 
 -- ---- where it waits after so many turns
 
@@ -50,10 +52,9 @@ IsLeaseAt grants old job granted stage grantor =
     ((stage ≡ awaits_hello) × (granted ≡ None) × (grantor ≡ old))
     ⊎ ((span : Span) × (granted ≡ Some span) × IsLeased grants old job span stage grantor)
 
--- what is logged then, how many answers were sent, and what was leased
+-- what is logged then, and what was leased
 pub record IsAt {R : Type 0} (grants : Grants R) (old : R) (job : VerifierJob) (stage : VerifierStage) (granted : Option Span) (grantor : R) (before : List Turn) : Type 0 where
   pub log : IsLogAt job stage (whole_log Verifier [] before)
-  pub counts : answers_sent before ≡ answers_before job stage
   pub lease : IsLeaseAt grants old job granted stage grantor
 
 -- so it is with a verifier's end, whose job is that of the statement that it took
@@ -117,14 +118,6 @@ module _ {R : Type 0} (jobs : VerifierJobs) (grants : Grants R) (old : R) (law :
         log = subst (IsLogAt job (behind_grant job start)) (ap (λ l. front ++ l) (sym told) ∙ whole_more Verifier [] before turn)
             (grant_behind job start front (omega (arith, grants_units.are.units, grants_units.are.within))
             (hello_logged job (whole_log Verifier [] before) turn.frame none grants_units.greeted.greets));
-        counts = omega (
-          arith,
-          answers_more before turn,
-          at.counts,
-          ap (answers_before s.core.job) waits,
-          ap sends_of grants_units.answer_is,
-          one_answer_behind job start,
-        );
         lease = inr (
           grants_units.span,
           grants_units.granted,
@@ -152,12 +145,6 @@ module _ {R : Type 0} (jobs : VerifierJobs) (grants : Grants R) (old : R) (law :
       (λ i. (sym by.job i, sym by.grantor i)) (record {
         log = subst (IsLogAt job t.core.stage) (whole_more Verifier [] before turn)
             (logs_on job s.core.stage t.core.stage (whole_log Verifier [] before) place turn.frame turn.answer law by.held expected allowed at.log by.answers);
-        counts = omega (
-          arith,
-          answers_more before turn,
-          at.counts,
-          answers_counted job s.core.stage t.core.stage (whole_log Verifier [] before) turn.frame turn.answer at.log by.answers,
-        );
         lease = inr (by.span, by.granted ∙ by.behind, stays);
       })
 
@@ -200,7 +187,7 @@ module _ {R : Type 0} (jobs : VerifierJobs) (grants : Grants R) (old : R) (law :
         job = refl;
         taken = tt;
         untaken = λ none. refl;
-        at = record { log = refl; counts = refl; lease = inl (refl, refl, refl) };
+        at = record { log = refl; lease = inl (refl, refl, refl) };
       }) went
 
 -- ---- where it stops
@@ -244,18 +231,12 @@ judged_at grants old job granted stage grantor (inr some) none = (some.0, some.1
 
 -- ---- what is taken
 
--- a refusal that was tried, and an answer that was not sent, leave the log, or add to it
-tried_adds : (code : Option ℕ) (heard now : LineState) → TriesRefusal code heard now → (more : List (Side × ℕ)) × (now.log ≡ heard.log ++ more)
-tried_adds None heard now still = ([], ap (λ (l : LineState). l.log) still ∙ sym (append-nil heard.log))
-tried_adds (Some code) heard now (inl sent) = (bytes_from heard.side (refuse_frame code), sent.logged)
-tried_adds (Some code) heard now (inr refused) = ([], refused.1.logged ∙ sym (append-nil heard.log))
-
-unsent_adds : (code : Option ℕ) (answer : List Frame) (broke : LineFault) (heard now : LineState) → IsUnsent code answer broke heard now
-    → (more : List (Side × ℕ)) × (now.log ≡ heard.log ++ more)
-unsent_adds code answer broke heard now unsent = elim unsent.unsent [
-  | inl lacks ↦ tried_adds code heard now lacks.1
-  | inr refused ↦ ([], refused.logged ∙ sym (append-nil heard.log))
-]
+-- the log goes on behind what came, whether a refusal was tried then or an answer was kept back
+tried_adds : (code : Option ℕ) (log : List (Side × ℕ)) (first now : LinkSnapshot) → TriesCode Verifier log code first now
+    → (more : List (Side × ℕ)) × (now.log ≡ log ++ more)
+tried_adds None log first now well = ([], well.logged ∙ sym (append-nil log))
+tried_adds (Some code) log first now (inl well) = (bytes_from Verifier (refuse_frame code), well.logged)
+tried_adds (Some code) log first now (inr lost) = ([], lost.logged ∙ sym (append-nil log))
 
 -- ---- which statement a hello is taken for
 
@@ -314,11 +295,11 @@ line_no_hello (fault.BadFrame place) differs is = cc
 line_no_hello fault.Link differs is = cc
 line_no_hello fault.NoMemory differs is = cc
 
--- after the grant no hello is refused
-behind_no_hello : (job : VerifierJob) (stage : VerifierStage) (frame : Frame) (fault : VerifierFault) (differs : HelloDiffers)
-    → VerifierRefuses job stage frame fault → session_outcome fault ≡ BadHello differs → ¬ (stage ≡ awaits_hello) → ⊥
-behind_no_hello job stage frame (session.BadHello other) differs refuses is behind = behind refuses.1
-behind_no_hello job stage frame session.NoMemory differs refuses is behind = memory_no_hello differs is
+-- after the grant no hello is refused, and a frame only for want of memory
+only_memory : (job : VerifierJob) (stage : VerifierStage) (frame : Frame) (fault : VerifierFault) → VerifierRefuses job stage frame fault
+    → ¬ (stage ≡ awaits_hello) → session_outcome fault ≡ NoMemory
+only_memory job stage frame (session.BadHello other) refuses behind = absurd (behind refuses.1)
+only_memory job stage frame session.NoMemory refuses behind = refl
 
 -- a hello that differs from that of a job is none for it
 differs_not_fits : (job : VerifierJob) (said : Hello) (differs : HelloDiffers)
@@ -342,36 +323,19 @@ for_none jobs job (Some n) said frame (session.BadHello other) differs takes job
 -- ---- what is noted in the end
 
 module _ {R : Type 0} (jobs : VerifierJobs) (grants : Grants R) (old : R) (once : grants.answer old ≡ None) (law : RepliesAreInRange)
-    (new : Served R) (outcome : Outcome VerifierOutcome) (first now : LineState) (side : first.side ≡ Verifier)
-    (run : IsRun (serves grants) [] (served jobs (record { job = jobs.first; stage = awaits_hello }) None None old) new outcome first now) where
+    (new : Served R) (outcome : Outcome VerifierOutcome) (first now : LinkSnapshot)
+    (left : PartyLeaves (serves grants) [] Verifier (served jobs (record { job = jobs.first; stage = awaits_hello }) None None old) new outcome first now) where
   abbrev mid : Served R
-  mid = run.mid
+  mid = left.mid
 
   abbrev passed : List (Side × ℕ)
-  passed = whole_log Verifier [] run.turns
+  passed = whole_log Verifier [] left.turns
 
-  abbrev sent : ℕ
-  sent = sends_in [] run.turns
-
-  stood : IsStanding jobs grants old mid run.turns
-  stood = stands jobs grants old law mid run.turns run.went
-
-  stopped : StopsBy (serves grants) [] run.turns mid new outcome (ours first) now
-  stopped = subst (λ (f : LineState). StopsBy (serves grants) [] run.turns mid new outcome f now) (λ i. record first { side = side i }) run.stops
-
-  all_sent : sent ≡ answers_before mid.core.job mid.core.stage
-  all_sent = omega (arith, stood.at.counts)
+  stood : IsStanding jobs grants old mid left.turns
+  stood = stands jobs grants old law mid left.turns left.went
 
   abbrev IsCourseOf : VerifierJob → VerifierOutcome → Type 0
-  IsCourseOf job told = IsCourse job (grants.answer new.grantor) new.granted told (snapshot_of first) (snapshot_of now)
-
-  -- by what was answered, and what was granted
-  course_by : (job : VerifierJob) (answer : Option (Result Span LeaseFault)) (granted : Option Span) (told : VerifierOutcome)
-      → grants.answer new.grantor ≡ answer → new.granted ≡ granted → IsCourse job answer granted told (snapshot_of first) (snapshot_of now)
-      → IsCourseOf job told
-  course_by job answer granted told answered is course =
-      subst (λ (q : Option (Result Span LeaseFault) × Option Span). IsCourse job q.0 q.1 told (snapshot_of first) (snapshot_of now))
-      (λ i. (sym answered i, sym is i)) course
+  IsCourseOf job told = IsCourse job (grants.answer new.grantor) new.granted told first now
 
   -- which statement was taken, which units were asked for, and the course of the session
   pub record IsNoted (told : VerifierOutcome) : Type 0 where
@@ -407,110 +371,120 @@ module _ {R : Type 0} (jobs : VerifierJobs) (grants : Grants R) (old : R) (once 
     leased : IsLeased grants old mid.core.job span mid.core.stage mid.grantor
     leased = leased_as grants old mid.core.job mid.granted span mid.core.stage mid.grantor behind stood.at.lease
 
-    course_behind : (told : VerifierOutcome) → StopsBehind mid.core.job span.start told (snapshot_of first) (snapshot_of now)
-        ⊎ ((judgement : Judgement) × (told ≡ judgement_outcome judgement) × IsWaiting mid.core.job (has_judged span.start judgement)
-        (snapshot_of first) (snapshot_of now))
-        → IsCourseOf mid.core.job told
-    course_behind told course =
-        course_by mid.core.job (Some (Ok span)) (Some span) told (ap grants.answer grantor ∙ leased.leased.told) (granted ∙ behind)
-        (refl, record { units = leased.are.units; within = leased.are.within; course = inr course })
+    stopped_so : (broke : LineFault) → IsStopped mid.core.job mid.core.stage broke first now → IsCourseOf mid.core.job (line_outcome broke)
+    stopped_so broke stop = record {
+      ending = stops_behind span broke;
+      answer_is = ap grants.answer grantor ∙ leased.leased.told;
+      granted_is = granted ∙ behind;
+      outcome_is = refl;
+      has = (leased.are, record { stage = mid.core.stage; behind = leased.behind; stopped = stop });
+    }
 
-    course_stopped : (told : VerifierOutcome) → IsStopped mid.core.job mid.core.stage told (snapshot_of first) (snapshot_of now)
-        → IsCourseOf mid.core.job told
-    course_stopped told stop = course_behind told (inl (record { stage = mid.core.stage; behind = leased.behind; stopped = stop }))
-
-  over : (told : VerifierOutcome) → IsToldAs new.core.stage Done told → IsOver (serves grants) passed sent mid new (ours first) now → IsNoted told
+  over : (told : VerifierOutcome) → IsToldAs new.core.stage Done told → Finishes (serves grants) Verifier passed mid new first now → IsNoted told
   over told told_is is =
       let grantor = ap (λ (s : Served R). s.grantor) is.same in
       let judged = judged_at grants old mid.core.job mid.granted mid.core.stage mid.grantor stood.at.lease
       (sym (ap (λ (s : Served R). verifier_expects s.core.job s.core.stage) is.same) ∙ is.expected) in
       let judgement = judged.2.0 in
+      let leased = leased_as grants old mid.core.job mid.granted judged.0 mid.core.stage mid.grantor judged.1 stood.at.lease in
       let found : told_is.0 ≡ judgement = same_Some told_is.0 judgement
       (sym told_is.1 ∙ ap (λ (s : Served R). judgement_at s.core.stage) is.same ∙ ap judgement_at judged.2.1) in
-      still_noted told [] (ap (λ (s : Served R). s.taken) is.same) grantor (is.passed.logged ∙ sym (append-nil passed))
+      still_noted told [] (ap (λ (s : Served R). s.taken) is.same) grantor (is.well.logged ∙ sym (append-nil passed))
       (λ differs named. judgement_no_hello told_is.0 differs (sym told_is.2 ∙ named))
-      (course_behind judged.0 judged.1 grantor (ap (λ (s : Served R). s.granted) is.same) told (inr (
-        judgement,
-        told_is.2 ∙ ap judgement_outcome found,
-        subst (λ p. IsWaiting mid.core.job p (snapshot_of first) (snapshot_of now)) judged.2.1
-            (waiting_of mid.core.job mid.core.stage passed sent first now stood.at.log all_sent is.passed),
-      )))
+      (record {
+        ending = judges judged.0 judgement;
+        answer_is = ap grants.answer grantor ∙ leased.leased.told;
+        granted_is = ap (λ (s : Served R). s.granted) is.same ∙ judged.1;
+        outcome_is = told_is.2 ∙ ap judgement_outcome found;
+        has = (
+          leased.are,
+          record {
+            log = subst (λ (q : VerifierStage × List (Side × ℕ)). IsLogAt mid.core.job q.0 q.1) (λ i. (judged.2.1 i, sym is.well.logged i)) stood.at.log;
+            well = subst (λ l. GoesWell Verifier l first now) (sym is.well.logged) is.well;
+          },
+        );
+      })
 
-  missed : (broke : LineFault) → IsMissing (serves grants) passed sent mid new broke (ours first) now → IsNoted (line_outcome broke)
-  missed broke missing =
-      let grantor = ap (λ (s : Served R). s.grantor) missing.same in
-      let granted = ap (λ (s : Served R). s.granted) missing.same in
-      still_noted (line_outcome broke) (bytes_from Prover missing.rest) (ap (λ (s : Served R). s.taken) missing.same) grantor missing.logged
+  missed : (broke : LineFault) → Misses (serves grants) Verifier passed mid new broke first now → IsNoted (line_outcome broke)
+  missed broke misses =
+      let grantor = ap (λ (s : Served R). s.grantor) misses.same in
+      let granted = ap (λ (s : Served R). s.granted) misses.same in
+      let stop = stops_without (serves grants) mid.core.job mid.core.stage passed mid new broke first now refl stood.at.log misses in
+      still_noted (line_outcome broke) (bytes_from Prover misses.rest) (ap (λ (s : Served R). s.taken) misses.same) grantor misses.short.logged
       (line_no_hello broke) (elim stood.at.lease [
-        | inl none ↦ course_by mid.core.job None None (line_outcome broke) (ap grants.answer (grantor ∙ none.2) ∙ once) (granted ∙ none.1) (
-          refl,
-          unmet_missing (serves grants) mid.core.job passed sent mid new broke first now (ap (verifier_expects mid.core.job) none.0)
-              (subst (λ p. IsLogAt mid.core.job p passed) none.0 stood.at.log) (all_sent ∙ ap (answers_before mid.core.job) none.0) missing,
-        )
-        | inr some ↦ course_stopped some.0 some.1 grantor granted (line_outcome broke)
-            (stops_without (serves grants) mid.core.job mid.core.stage passed sent mid new broke first now refl stood.at.log all_sent missing)
+        | inl none ↦ record {
+          ending = lacks_hello broke;
+          answer_is = ap grants.answer (grantor ∙ none.2) ∙ once;
+          granted_is = granted ∙ none.1;
+          outcome_is = refl;
+          has = subst (λ p. IsStopped mid.core.job p broke first now) none.0 stop;
+        }
+        | inr some ↦ stopped_so some.0 some.1 grantor granted broke stop
       ])
 
-  refused_behind : (fault : VerifierOutcome) (stop : IsRefusal (serves grants) passed sent mid new fault (ours first) now)
-      → RefusesBehind mid stop.frame fault stop.code new → IsNoted fault
-  refused_behind fault stop by =
-      let still : now ≡ stop.heard = subst (λ c. TriesRefusal c stop.heard now) by.code_is stop.tried in
-      still_noted fault (bytes_from Prover (frame_spelling stop.frame)) by.taken by.grantor (ap (λ (l : LineState). l.log) still ∙ stop.passed.logged)
-      (λ differs is. behind_no_hello mid.core.job mid.core.stage stop.frame by.fault differs by.refuses (sym by.outcome_is ∙ is)
-      (λ waits. subst (IsBehind by.span.start) waits (leased by.span by.behind by.grantor by.granted).behind))
-      (course_stopped by.span by.behind by.grantor by.granted fault
-      (subst (λ (q : VerifierOutcome × LineState). IsStopped mid.core.job mid.core.stage q.0 (snapshot_of first) (snapshot_of q.1))
-      (λ i. (sym by.outcome_is i, sym still i))
-      (stops_refused mid.core.job mid.core.stage stop.place stop.frame by.fault passed sent first stop.heard stop.expected stop.allowed
-      stood.at.log all_sent stop.passed by.refuses)))
+  -- a frame came after the grant
+  module _ (place : Expect) (frame : Frame) (expected : verifier_expects mid.core.job mid.core.stage ≡ Some place) (allowed : Allows place frame) where
+    abbrev heard : List (Side × ℕ)
+    heard = passed ++ bytes_from Prover (frame_spelling frame)
 
-  unanswered_behind : (broke : LineFault) (stop : IsUnanswered (serves grants) passed sent mid new broke (ours first) now)
-      → AnswersBehind mid stop.turn.frame stop.turn.answer new → IsNoted (line_outcome broke)
-  unanswered_behind broke stop by = elim stop.unsent.unsent [
-    | inl lacks ↦
-        let still : now ≡ stop.heard = subst (λ c. TriesRefusal c stop.heard now)
-        (no_lack_behind by.span.start mid.core.stage (leased by.span by.behind by.grantor by.granted).behind) lacks.1 in
-        noted_at (ap (λ (l : LineState). l.log) still)
-        (subst (λ (q : VerifierOutcome × LineState). IsStopped mid.core.job mid.core.stage q.0 (snapshot_of first) (snapshot_of q.1))
-        (λ i. (ap line_outcome (sym lacks.0) i, sym still i))
-        (stops_refused mid.core.job mid.core.stage stop.is.place stop.turn.frame session.NoMemory passed sent first stop.heard stop.is.expected
-        stop.is.allowed stood.at.log all_sent stop.passed tt))
-    | inr refused ↦ noted_at refused.logged
-        (stops_unsent mid.core.job mid.core.stage new.core.stage stop.is.place stop.turn.frame stop.turn.answer broke passed sent first stop.heard now
-        stop.is.expected stop.is.allowed stood.at.log all_sent stop.passed by.answers stop.unsent.at_least_one refused)
-  ]
-    where
-      noted_at : now.log ≡ stop.heard.log → IsStopped mid.core.job mid.core.stage (line_outcome broke) (snapshot_of first) (snapshot_of now)
-          → IsNoted (line_outcome broke)
-      noted_at log stopped_so = still_noted (line_outcome broke) (bytes_from Prover (frame_spelling stop.turn.frame)) by.taken by.grantor
-          (log ∙ stop.passed.logged)
-          (line_no_hello broke)
-          (course_stopped by.span by.behind by.grantor by.granted (line_outcome broke) stopped_so)
+    lacks_behind : (span : Span) (behind : mid.granted ≡ Some span) → new.grantor ≡ mid.grantor → new.granted ≡ mid.granted → new.taken ≡ mid.taken
+        → GoesWell Verifier heard first now → IsNoted NoMemory
+    lacks_behind span behind grantor granted taken well =
+        still_noted NoMemory (bytes_from Prover (frame_spelling frame)) taken grantor well.logged (line_no_hello fault.NoMemory)
+        (stopped_so span behind grantor granted fault.NoMemory
+        (stops_lacking mid.core.job span.start mid.core.stage place frame passed first now (leased span behind grantor granted).behind
+        expected allowed stood.at.log well))
+
+    refused_behind : (told : VerifierOutcome) (code : Option ℕ) → RefusesBehind mid frame told code new → TriesCode Verifier heard code first now
+        → IsNoted told
+    refused_behind told code by tried =
+        let behind = (leased by.span by.behind by.grantor by.granted).behind in
+        subst IsNoted (sym (by.outcome_is
+        ∙ only_memory mid.core.job mid.core.stage frame by.fault by.refuses (λ waits. subst (IsBehind by.span.start) waits behind)))
+        (lacks_behind by.span by.behind by.grantor by.granted by.taken (subst (λ c. TriesCode Verifier heard c first now) by.code_is tried))
+
+    unanswered_behind : (answer : List Frame) (broke : LineFault) → AnswersBehind mid frame answer new → 1 ≤ length answer
+        → KeepsBack (lack_code_at mid.core.stage) Verifier heard (flat_map frame_spelling answer) broke first now → IsNoted (line_outcome broke)
+    unanswered_behind answer broke by some (inl lacks) =
+        subst (λ f. IsNoted (line_outcome f)) (sym lacks.0)
+        (lacks_behind by.span by.behind by.grantor by.granted by.taken
+        (subst (λ c. TriesCode Verifier heard c first now)
+        (no_lack_behind by.span.start mid.core.stage (leased by.span by.behind by.grantor by.granted).behind) lacks.1))
+    unanswered_behind answer broke by some (inr lost) =
+        still_noted (line_outcome broke) (bytes_from Prover (frame_spelling frame)) by.taken by.grantor lost.logged (line_no_hello broke)
+        (stopped_so by.span by.behind by.grantor by.granted broke
+        (stops_unsent mid.core.job mid.core.stage new.core.stage place frame answer broke passed first now expected allowed stood.at.log
+        by.answers some lost))
 
   -- ---- where a hello was taken
 
-  module _ (place : Expect) (frame : Frame) (heard : LineState) (expected : verifier_expects mid.core.job mid.core.stage ≡ Some place)
-      (allowed : Allows place frame)
-      (came : HasPassed (passed ++ bytes_from Prover (frame_spelling frame)) sent (ours first) heard) where
+  module _ (frame : Frame) where
+    abbrev came_hello : List (Side × ℕ)
+    came_hello = passed ++ bytes_from Prover (frame_spelling frame)
+
     module _ (met : Met jobs mid frame new) where
-      none_passed : passed ≡ []
-      none_passed = subst (λ p. IsLogAt mid.core.job p passed) met.waits stood.at.log
-
-      none_sent : sent ≡ 0
-      none_sent = all_sent ∙ ap (answers_before mid.core.job) met.waits
-
       none_leased : (mid.granted ≡ None) × (mid.grantor ≡ old)
       none_leased = unleased grants old mid.core.job mid.granted mid.core.stage mid.grantor met.waits stood.at.lease
 
-      met_noted : (told : VerifierOutcome) → (more : List (Side × ℕ)) × (now.log ≡ heard.log ++ more)
+      -- it alone came
+      hello_heard : came_hello ≡ bytes_from Prover (hello_frame met.hello)
+      hello_heard =
+          let none : passed ≡ [] = subst (λ p. IsLogAt mid.core.job p passed) met.waits stood.at.log in
+          λ i. none i ++ bytes_from Prover (frame_spelling (met.is i))
+
+      -- and was refused
+      refused_after : (code : Option ℕ) (number : ℕ) → code ≡ Some number
+          → TriesCode Verifier came_hello code first now → RefusesAfter met.hello number first now
+      refused_after code number is tried =
+          subst (λ (q : List (Side × ℕ) × Option ℕ). TriesCode Verifier q.0 q.1 first now) (λ i. (hello_heard i, is i)) tried
+
+      met_noted : (told : VerifierOutcome) → (more : List (Side × ℕ)) × (now.log ≡ came_hello ++ more)
           → IsLeaseTold grants (units_of_job new.core.job) old new.grantor
           → (new.taken ≡ None → grants.answer new.grantor ≡ None)
           → ((differs : HelloDiffers) → told ≡ BadHello differs → (new.taken ≡ None) × IsForNone jobs met.hello) → IsCourseOf new.core.job told
           → IsNoted told
       met_noted told adds lease none unlike course =
-          let begins : BeginsByHello met.hello now.log =
-          subst (BeginsByHello met.hello) (sym (adds.1 ∙ ap (λ l. l ++ adds.0) came.logged))
-          (begun jobs mid new frame passed adds.0 none_passed met) in
+          let begins : BeginsByHello met.hello now.log = (met.ranged, (adds.0, adds.1 ∙ ap (λ l. l ++ adds.0) hello_heard)) in
           record {
             statement = record {
               has = taken_by jobs new.taken met.hello now.log met.takes begins;
@@ -522,8 +496,13 @@ module _ {R : Type 0} (jobs : VerifierJobs) (grants : Grants R) (old : R) (once 
           }
 
     module _ (greeted : Greeted jobs mid frame new) where
+      -- a hello for the statement is the one that was met
+      same_hello : greeted.greets.greeting.hello ≡ greeted.met.hello
+      same_hello = ap (hello_in greeted.met.hello) (sym greeted.greets.is ∙ greeted.met.is)
+
       -- units were asked for
-      asked_noted : (told : VerifierOutcome) (answer : Result Span LeaseFault) → (more : List (Side × ℕ)) × (now.log ≡ heard.log ++ more)
+      asked_noted : (told : VerifierOutcome) (answer : Result Span LeaseFault)
+          → (more : List (Side × ℕ)) × (now.log ≡ came_hello ++ more)
           → Leases grants (units_of_job new.core.job) answer mid.grantor new.grantor → ((differs : HelloDiffers) → ¬ (told ≡ BadHello differs))
           → IsCourseOf new.core.job told → IsNoted told
       asked_noted told answer adds leases unlike course =
@@ -532,106 +511,122 @@ module _ {R : Type 0} (jobs : VerifierJobs) (grants : Grants R) (old : R) (once 
           (λ none. absurd (none_is_some (sym none ∙ greeted.taken))) (λ differs is. absurd (unlike differs is)) course
 
       -- a refusal was tried after the hello
-      refused_grant : (code : ℕ) → TriesRefusal (Some code) heard now → IsRefusedGrant new.core.job code (snapshot_of first) (snapshot_of now)
-      refused_grant code tried = record {
-        mid = snapshot_of heard;
-        waiting = waiting_of new.core.job owes_grant (passed ++ bytes_from Prover (frame_spelling frame)) sent first heard
-            (hello_logged new.core.job passed frame (none_passed greeted.met) greeted.greets) (none_sent greeted.met) came;
-        refused = refusal_tried code heard now came.side tried;
+      refused_grant : (code : Option ℕ) (number : ℕ) → code ≡ Some number
+          → TriesCode Verifier came_hello code first now → IsRefusedGrant new.core.job number first now
+      refused_grant code number is tried = record {
+        greeting = greeted.greets.greeting;
+        refused = subst (λ h. RefusesAfter h number first now) (sym same_hello) (refused_after greeted.met code number is tried);
       }
 
       -- units were leased, but the grant did not go out
-      lacks_noted : (told : VerifierOutcome) (span : Span) → (more : List (Side × ℕ)) × (now.log ≡ heard.log ++ more)
-          → Leases grants (units_of_job new.core.job) (Ok span) mid.grantor new.grantor → new.granted ≡ Some span → AreUnits new.core.job span
+      lacks_noted : (told : VerifierOutcome) (span : Span)
+          → (more : List (Side × ℕ)) × (now.log ≡ came_hello ++ more)
+          → Leases grants (units_of_job new.core.job) (Ok span) mid.grantor new.grantor → new.granted ≡ Some span → (are : AreUnits new.core.job span)
           → ((differs : HelloDiffers) → ¬ (told ≡ BadHello differs))
-          → LacksTheGrant new.core.job span.start told (snapshot_of first) (snapshot_of now) → IsNoted told
-      lacks_noted told span adds leases granted are unlike lacks = asked_noted told (Ok span) adds leases unlike
-          (course_by new.core.job (Some (Ok span)) (Some span) told leases.told granted
-          (refl, record { units = are.units; within = are.within; course = inl lacks }))
+          → (ending : Ending) → answer_at ending ≡ Some (Ok span) → told ≡ outcome_at ending → HasEnding new.core.job ending first now → IsNoted told
+      lacks_noted told span adds leases granted are unlike ending leased is has = asked_noted told (Ok span) adds leases unlike (record {
+        ending = ending;
+        answer_is = leases.told ∙ sym leased;
+        granted_is = granted ∙ ap granted_by (sym leased);
+        outcome_is = is;
+        has = has;
+      })
 
-    hello_noted : (told : VerifierOutcome) (code : Option ℕ) → RefusesHello jobs mid frame told code new → TriesRefusal code heard now → IsNoted told
+    hello_noted : (told : VerifierOutcome) (code : Option ℕ) → RefusesHello jobs mid frame told code new
+        → TriesCode Verifier came_hello code first now → IsNoted told
     hello_noted told code by tried =
         let none = none_leased by.met in
         let unasked = ap grants.answer (by.grantor ∙ none.1) ∙ once in
-        met_noted by.met told (tried_adds code heard now tried) (inl (by.grantor ∙ none.1, unasked)) (λ _. unasked)
+        met_noted by.met told (tried_adds code came_hello first now tried)
+        (inl (by.grantor ∙ none.1, unasked)) (λ _. unasked)
         (λ differs is. for_none jobs new.core.job new.taken by.met.hello frame by.fault differs by.met.takes by.met.job by.met.is by.refuses
         (sym by.outcome_is ∙ is))
-        (course_by new.core.job None None told unasked (by.granted ∙ none.0) (
-          refl,
-          subst (λ o. IsUnmet new.core.job o (snapshot_of first) (snapshot_of now)) (sym by.outcome_is)
-              (unmet_refused new.core.job place frame by.fault passed sent first heard now
-              (sym (ap (verifier_expects mid.core.job) by.met.waits) ∙ expected) allowed
-              (none_passed by.met) (none_sent by.met) came by.refuses
-              (refusal_tried (hello_code by.fault) heard now came.side (subst (λ c. TriesRefusal c heard now) by.code_is tried))),
-        ))
+        (record {
+          ending = turns_away by.fault;
+          answer_is = unasked;
+          granted_is = by.granted ∙ none.0;
+          outcome_is = by.outcome_is;
+          has = record {
+            said = by.met.hello;
+            is = by.met.ranged;
+            cause = subst (λ f. VerifierRefuses new.core.job awaits_hello f by.fault) by.met.is by.refuses;
+            refused = refused_after by.met code (hello_code by.fault) by.code_is tried;
+          };
+        })
 
-    lease_noted : (told : VerifierOutcome) (code : Option ℕ) → RefusesLease jobs grants mid frame told code new → TriesRefusal code heard now
-        → IsNoted told
+    lease_noted : (told : VerifierOutcome) (code : Option ℕ) → RefusesLease jobs grants mid frame told code new
+        → TriesCode Verifier came_hello code first now → IsNoted told
     lease_noted told code by tried =
-        asked_noted by.greeted told (Err by.fault) (tried_adds code heard now tried) by.leased
+        asked_noted by.greeted told (Err by.fault) (tried_adds code came_hello first now tried) by.leased
         (λ differs is. lease_no_hello by.fault differs (sym by.outcome_is ∙ is))
-        (course_by new.core.job (Some (Err by.fault)) None told by.leased.told (by.granted ∙ (none_leased by.greeted.met).0) (
-          refl,
-          record {
-            named = by.outcome_is;
-            refused = refused_grant by.greeted (lease_code by.fault) (subst (λ c. TriesRefusal c heard now) by.code_is tried);
-          },
-        ))
+        (record {
+          ending = lacks_units by.fault;
+          answer_is = by.leased.told;
+          granted_is = by.granted ∙ (none_leased by.greeted.met).0;
+          outcome_is = by.outcome_is;
+          has = refused_grant by.greeted code (lease_code by.fault) by.code_is tried;
+        })
 
-    lacking_noted : (told : VerifierOutcome) (code : Option ℕ) → LacksGrantFrame jobs grants mid frame told code new → TriesRefusal code heard now
-        → IsNoted told
+    lacking_noted : (told : VerifierOutcome) (code : Option ℕ) → LacksGrantFrame jobs grants mid frame told code new
+        → TriesCode Verifier came_hello code first now → IsNoted told
     lacking_noted told code by tried =
-        lacks_noted by.greeted told by.span (tried_adds code heard now tried) by.leased by.granted by.are
-        (λ differs is. memory_no_hello differs (sym by.outcome_is ∙ is))
-        (inl (by.outcome_is, refused_grant by.greeted 4 (subst (λ c. TriesRefusal c heard now) by.code_is tried)))
+        lacks_noted by.greeted told by.span (tried_adds code came_hello first now tried) by.leased by.granted
+        by.are (λ differs is. memory_no_hello differs (sym by.outcome_is ∙ is))
+        (lacks_grant by.span) refl by.outcome_is (by.are, refused_grant by.greeted code 4 by.code_is tried)
 
     unsent_noted : (answer : List Frame) (broke : LineFault) → GrantsUnits jobs grants mid frame answer new
-        → IsUnsent (Some 4) answer broke heard now → IsNoted (line_outcome broke)
-    unsent_noted answer broke by fails =
-        let job = new.core.job in
-        let grant_spelled = grant_frame (granted_from job by.span.start) in
-        let spelled : flat_map frame_spelling answer ≡ grant_spelled = ap (flat_map frame_spelling) by.answer_is ∙ append-nil grant_spelled in
-        lacks_noted by.greeted (line_outcome broke) by.span (unsent_adds (Some 4) answer broke heard now fails) by.leased by.granted by.are
-        (line_no_hello broke) (elim fails.unsent [
-          | inl lacks ↦ inl (ap line_outcome lacks.0, refused_grant by.greeted 4 lacks.1)
-          | inr refused ↦ inr (grant_unsent job by.span.start (passed ++ bytes_from Prover (frame_spelling frame)) broke first heard now
-              (hello_logged job passed frame (none_passed by.greeted.met) by.greeted.greets)
-              (subst (λ n. HasPassed (passed ++ bytes_from Prover (frame_spelling frame)) n (ours first) heard) (none_sent by.greeted.met) came)
-              (subst (λ b. IsSendRefused b broke heard now) spelled refused))
-        ])
+        → KeepsBack (lack_code_at mid.core.stage) Verifier came_hello (flat_map frame_spelling answer) broke first now
+        → IsNoted (line_outcome broke)
+    unsent_noted answer broke by (inl lacks) =
+        lacks_noted by.greeted (line_outcome broke) by.span (tried_adds (lack_code_at mid.core.stage) came_hello first now lacks.1) by.leased by.granted by.are
+        (line_no_hello broke) (lacks_grant by.span) refl (ap line_outcome lacks.0)
+        (by.are, refused_grant by.greeted (lack_code_at mid.core.stage) 4 (ap lack_code_at by.greeted.met.waits) lacks.1)
+    unsent_noted answer broke by (inr lost) =
+        let spelled = grant_frame (granted_from new.core.job by.span.start) in
+        lacks_noted by.greeted (line_outcome broke) by.span ([], lost.logged ∙ sym (append-nil came_hello)) by.leased by.granted by.are
+        (line_no_hello broke) (loses_grant by.span broke) refl refl (
+          by.are,
+          record {
+            greeting = by.greeted.greets.greeting;
+            lost = subst (λ (q : List (Side × ℕ) × List ℕ). IsLostBy broke Verifier q.0 q.1 first now)
+                (λ i. (
+                  (hello_heard by.greeted.met ∙ ap (λ h. bytes_from Prover (hello_frame h)) (sym (same_hello by.greeted))) i,
+                  (ap (flat_map frame_spelling) by.answer_is ∙ append-nil spelled) i,
+                )) lost;
+          },
+        )
 
   -- ---- all together
 
   pub noted : (told : VerifierOutcome) → IsToldAs new.core.stage outcome told → IsNoted told
-  noted told told_is = by_outcome outcome told_is stopped
+  noted told told_is = by_outcome outcome told_is left.halts
     where
-      refused : (fault : VerifierOutcome) → IsRefusal (serves grants) passed sent mid new fault (ours first) now → IsNoted fault
+      refused : (fault : VerifierOutcome) → TurnsDown (serves grants) Verifier passed mid new fault first now → IsNoted fault
       refused fault stop = elim (subst (λ j. Refuses j grants mid stop.frame fault stop.code new) stood.jobs_are stop.refused.1) [
-        | inl by ↦ hello_noted stop.place stop.frame stop.heard stop.expected stop.allowed stop.passed fault stop.code by stop.tried
-        | inr (inl by) ↦ lease_noted stop.place stop.frame stop.heard stop.expected stop.allowed stop.passed fault stop.code by stop.tried
-        | inr (inr (inl by)) ↦ lacking_noted stop.place stop.frame stop.heard stop.expected stop.allowed stop.passed fault stop.code by stop.tried
-        | inr (inr (inr by)) ↦ refused_behind fault stop by
+        | inl by ↦ hello_noted stop.frame fault stop.code by stop.tried
+        | inr (inl by) ↦ lease_noted stop.frame fault stop.code by stop.tried
+        | inr (inr (inl by)) ↦ lacking_noted stop.frame fault stop.code by stop.tried
+        | inr (inr (inr by)) ↦ refused_behind stop.place stop.frame stop.expected stop.allowed fault stop.code by stop.tried
       ]
 
-      unanswered : (broke : LineFault) → IsUnanswered (serves grants) passed sent mid new broke (ours first) now → IsNoted (line_outcome broke)
+      unanswered : (broke : LineFault) → KeepsAnswer (serves grants) Verifier passed mid new broke first now → IsNoted (line_outcome broke)
       unanswered broke stop = elim (subst (λ j. Answers j grants mid stop.turn.frame stop.turn.answer new) stood.jobs_are stop.is.answered.1) [
-        | inl by ↦ unsent_noted stop.is.place stop.turn.frame stop.heard stop.is.expected stop.is.allowed stop.passed stop.turn.answer broke by
-            (subst (λ p. IsUnsent (lack_code_at p) stop.turn.answer broke stop.heard now) by.greeted.met.waits stop.unsent)
-        | inr by ↦ unanswered_behind broke stop by
+        | inl by ↦ unsent_noted stop.turn.frame stop.turn.answer broke by stop.kept
+        | inr by ↦ unanswered_behind stop.is.place stop.turn.frame stop.is.expected stop.is.allowed stop.turn.answer broke by stop.some stop.kept
       ]
 
-      by_outcome : (o : Outcome VerifierOutcome) → IsToldAs new.core.stage o told → StopsBy (serves grants) [] run.turns mid new o (ours first) now
+      by_outcome : (o : Outcome VerifierOutcome) → IsToldAs new.core.stage o told → Halts (serves grants) [] Verifier left.turns mid new o first now
           → IsNoted told
       by_outcome Done told_is is = over told told_is is
       by_outcome (Refused fault) told_is stop = subst IsNoted (sym told_is) (refused fault stop)
-      by_outcome (Cut broke) told_is (inl missing) = subst IsNoted (sym told_is) (missed broke missing)
+      by_outcome (Cut broke) told_is (inl misses) = subst IsNoted (sym told_is) (missed broke misses)
       by_outcome (Cut broke) told_is (inr (inl stop)) = subst IsNoted (sym told_is) (unanswered broke stop)
-      by_outcome (Cut broke) told_is (inr (inr stop)) = absurd (omega (arith, stop.unsent.at_least_one))
+      by_outcome (Cut broke) told_is (inr (inr stop)) = absurd (omega (arith, stop.some))
 
   pub done_judged : outcome ≡ Done → IsSome (judgement_at new.core.stage)
   done_judged is =
-      let over_so : IsOver (serves grants) passed sent mid new (ours first) now =
-      subst (λ o. StopsBy (serves grants) [] run.turns mid new o (ours first) now) is stopped in
-      let at : IsStanding jobs grants old new run.turns = subst (λ s. IsStanding jobs grants old s run.turns) (sym over_so.same) stood in
+      let over_so : Finishes (serves grants) Verifier passed mid new first now =
+      subst (λ o. Halts (serves grants) [] Verifier left.turns mid new o first now) is left.halts in
+      let at : IsStanding jobs grants old new left.turns = subst (λ s. IsStanding jobs grants old s left.turns) (sym over_so.same) stood in
       let judged = judged_at grants old new.core.job new.granted new.core.stage new.grantor at.at.lease over_so.expected in
       subst (λ p. IsSome (judgement_at p)) (sym judged.2.1) refl

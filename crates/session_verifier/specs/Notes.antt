@@ -19,16 +19,19 @@ use Rattle.session_laws.specs.Peers.{HasWitness, GivesClaims}
 use Rattle.zk_port.specs.Counts.{Rose, counted}
 use Rattle.zk_port.specs.Logs.{appended}
 use Rattle.frame_link.specs.Lines.{LinkSnapshot, IsWithinFrame}
+use Rattle.frame_link.specs.declared.fault.LineFault.{LineFault}
+use Rattle.frame_link.specs.declared.fault.LineFault.TheVariants as line
+use Rattle.session_driver.specs.Leaving.{RefusesSends}
 use Rattle.lease_store.specs.declared.LeaseFault.{LeaseFault}
 use Rattle.lease_store.specs.declared.LeaseFault.TheVariants as lease
 use Rattle.session_core.specs.Jobs.{VerifierJob, VerifierJobs, IsFirstFor, IsForNone, job_at, units_of_job, granted_from}
 use Rattle.session_core.specs.declared.fault.HelloDiffers.{HelloDiffers}
 use Rattle.session_core.specs.Judgements.{IsJudgement, verdict_in}
-use Rattle.session_core.specs.Cores.{VerifierStage, awaits_hello, has_judged}
+use Rattle.session_core.specs.Cores.{VerifierStage, DiffersFirst}
 use Rattle.session_core.specs.declared.judgement.Judgement.{Judgement}
 use Rattle.session_core.specs.declared.judgement.Judgement.TheVariants as judged
 use Rattle.session_verifier.specs.Outcomes.{Refuses, lease_outcome, judgement_outcome, refusal_of}
-use Rattle.session_verifier.specs.Stages.{Greeting, IsStopped, IsRefusalTried, IsRefusedGrant, IsGrantUnsent, IsWaiting, IsWholeHello}
+use Rattle.session_verifier.specs.Stages.{Greeting, IsGrantUnsent, IsJudged, IsRefusedGrant, IsStopped, IsWholeHello, RefusesAfter}
 use Rattle.session_verifier.specs.declared.note.VerifierOutcome.{VerifierOutcome}
 use Rattle.session_verifier.specs.declared.note.VerifierOutcome.TheVariants.{Accepted, RejectedSum, RejectedOpening, PeerEnded, BadFrame, BadHello, Exhausted, Device, Broken, Link, NoMemory}
 
@@ -123,39 +126,32 @@ pub record HasJudged
     (first now : LinkSnapshot) : Type 0 where
   pub span : Span
   pub leased : answer ≡ Some (Ok span)
-  pub judged : IsWaiting job (has_judged span.start judgement) first now
+  pub judged : IsJudged job span.start judgement first now
 
--- the session stopped where the verifier waited for a frame
-abbrev pub StopsSomewhere : VerifierJob → VerifierOutcome → LinkSnapshot → LinkSnapshot → Type 0
-StopsSomewhere job outcome first now = (stage : VerifierStage) × IsStopped job stage outcome first now
+-- the session stopped so where the verifier waited for a frame
+abbrev pub StopsSomewhere : VerifierJob → LineFault → LinkSnapshot → LinkSnapshot → Type 0
+StopsSomewhere job fault first now = (stage : VerifierStage) × IsStopped job stage fault first now
 
 -- units were leased, and the one send of their grant was refused
 abbrev pub FailsToGrant :
-    VerifierJob → Option (Result Span LeaseFault) → VerifierOutcome → LinkSnapshot → LinkSnapshot → Type 0
-FailsToGrant job answer outcome first now =
-    (span : Span) × (answer ≡ Some (Ok span)) × IsGrantUnsent job span.start outcome first now
+    VerifierJob → Option (Result Span LeaseFault) → LineFault → LinkSnapshot → LinkSnapshot → Type 0
+FailsToGrant job answer fault first now =
+    (span : Span) × (answer ≡ Some (Ok span)) × IsGrantUnsent job span.start fault first now
+
+-- a hello came that differs so: refusal 1 was sent
+abbrev pub RefusesDiffering : VerifierJob → HelloDiffers → LinkSnapshot → LinkSnapshot → Type 0
+RefusesDiffering job differs first now = (said : Hello)
+    × IsHello said × DiffersFirst job.task.file.id job.task.statement said differs × RefusesAfter said 1 first now
 
 -- memory was missing in the grant's place, after a whole hello: refusal 4 was sent; units were leased only after one for the statement
 pub record LacksGrant
     (job : VerifierJob)
     (answer : Option (Result Span LeaseFault))
     (first now : LinkSnapshot) : Type 0 where
-  pub hello : Hello
-  pub is : IsHello hello
-  pub fits : IfSome answer (λ _. IsHelloFor job.task.file.id job.task.statement hello)
-  pub mid : LinkSnapshot
-  pub came : mid.log ≡ bytes_from Prover (hello_frame hello)
-  pub told : mid.told ≡ appended mid.log first.told
-  pub unsent : mid.sends ≡ first.sends
-  pub unrefused : mid.refused_sends ≡ first.refused_sends
-  pub unfailed : mid.faults ≡ first.faults
-  pub refused : IsRefusalTried 4 mid now
-
--- memory was missing elsewhere: while a frame came or was answered, but not in the grant's place
-pub record LacksMemory (job : VerifierJob) (first now : LinkSnapshot) : Type 0 where
-  pub stage : VerifierStage
-  pub stopped : IsStopped job stage NoMemory first now
-  pub unmet : stage ≡ awaits_hello → ¬ IsWholeHello stopped.rest
+  pub said : Hello
+  pub is : IsHello said
+  pub fits : IfSome answer (λ _. IsHelloFor job.task.file.id job.task.statement said)
+  pub refused : RefusesAfter said 4 first now
 
 -- no lease was refused
 abbrev pub RefusesNoLease : Option (Result Span LeaseFault) → Type 0
@@ -175,19 +171,19 @@ EndsBecause job answer (RejectedSum section left right) first now =
     HasJudged job answer (judged.RejectedSum section left right) first now
 EndsBecause job answer (RejectedOpening output left right) first now =
     HasJudged job answer (judged.RejectedOpening output left right) first now
-EndsBecause job answer (PeerEnded at) first now = StopsSomewhere job (PeerEnded at) first now
-EndsBecause job answer (BadFrame at) first now = StopsSomewhere job (BadFrame at) first now
-EndsBecause job answer (BadHello differs) first now =
-    (mid : LinkSnapshot) × IsStopped job awaits_hello (BadHello differs) first mid × IsRefusalTried 1 mid now
+EndsBecause job answer (PeerEnded at) first now = StopsSomewhere job (line.PeerEnded at) first now
+EndsBecause job answer (BadFrame at) first now = StopsSomewhere job (line.BadFrame at) first now
+EndsBecause job answer (BadHello differs) first now = RefusesDiffering job differs first now
 EndsBecause job answer (Exhausted at count total) first now =
     (answer ≡ Some (Err (lease.Exhausted at count total))) × IsRefusedGrant job 2 first now
 EndsBecause job answer Device first now = (answer ≡ Some (Err lease.Device)) × IsRefusedGrant job 3 first now
 EndsBecause job answer (Broken at) first now = (answer ≡ Some (Err (lease.Broken at))) × IsRefusedGrant job 3 first now
 EndsBecause job answer Link first now =
-    RefusesNoLease answer × (StopsSomewhere job Link first now ⊎ FailsToGrant job answer Link first now)
+    RefusesNoLease answer × (StopsSomewhere job line.Link first now ⊎ FailsToGrant job answer line.Link first now)
 EndsBecause job answer NoMemory first now =
     RefusesNoLease answer
-    × (LacksMemory job first now ⊎ LacksGrant job answer first now ⊎ FailsToGrant job answer NoMemory first now)
+    × (StopsSomewhere job line.NoMemory first now ⊎ LacksGrant job answer first now
+    ⊎ FailsToGrant job answer line.NoMemory first now)
 
 -- a log begins by these bytes, which are a hello
 abbrev pub BeginsByHello : Hello → List (Side × ℕ) → Type 0
@@ -215,19 +211,12 @@ abbrev pub IsAllSent : VerifierOutcome → Type 0
 IsAllSent Link = ⊥
 IsAllSent outcome = refusal_of outcome ≡ None
 
--- No send was refused, and nothing is told beside the log; or one was, where one may be.
-abbrev pub RefusesSends : VerifierOutcome → List ℕ → LinkSnapshot → LinkSnapshot → Type 0
-RefusesSends outcome part first now =
-    ((part ≡ []) × (now.refused_sends ≡ first.refused_sends))
-    ⊎ (¬ IsAllSent outcome × (now.refused_sends ≡ counted true first.refused_sends))
-
 -- What the link tells is what it told before and the log; where a send was refused, a first part of the one answer that was due
 -- then, and nothing else. No more than that one was refused, and only where one was is any of that part told.
 pub record IsTold (job : VerifierJob) (granted : Option Span) (outcome : VerifierOutcome) (first now : LinkSnapshot) : Type 0 where
   pub part : List ℕ
   pub told : now.told ≡ appended (now.log ++ bytes_from Verifier part) first.told
-  pub none : IsAllSent outcome → part ≡ []
-  pub refused : RefusesSends outcome part first now
+  pub refused : RefusesSends (¬ IsAllSent outcome) part first now
   pub rightly : TellsRightly job granted outcome (now.log ++ bytes_from Verifier part)
 
 -- The count of failed calls does not fall. It rises where the outcome is `Link`; else only by the one send of a refusal that was
@@ -243,11 +232,6 @@ pub record CountsFaults (outcome : VerifierOutcome) (first now : LinkSnapshot) :
 abbrev pub ReceivesFew : LinkSnapshot → LinkSnapshot → Type 0
 ReceivesFew first now = now.receives ≤ first.receives + length (sent_by Prover now.log) + 1
 
--- the peer ended
-abbrev pub IsPeerEnd : VerifierOutcome → Type 0
-IsPeerEnd (PeerEnded at) = Unit {0}
-IsPeerEnd outcome = ⊥
-
 -- The peer is an honest prover with the same statement, a file that is dealt with the verifier's, and values that give the
 -- claims: what came from it is a beginning of what such a prover sends for what the verifier sent, and it ended only after all
 -- of that.
@@ -256,7 +240,7 @@ pub record HasHonestPeer (job : VerifierJob) (prover : ProverTask) (outcome : Ve
   pub witness : HasWitness prover
   pub claims : GivesClaims prover
   pub honest : IsFromHonestProver prover log
-  pub ended : IsPeerEnd outcome → HasEndedHonestly prover log
+  pub ended : (at : ℕ) → outcome ≡ PeerEnded at → HasEndedHonestly prover log
 
 -- where no lease was refused and the link's count did not rise, the session is accepted, unless memory was missing
 abbrev pub IsAcceptedInCalm : Option (Result Span LeaseFault) → VerifierOutcome → LinkSnapshot → LinkSnapshot → Type 0

@@ -14,7 +14,7 @@ use Rattle.session_core.specs.declared.judgement.Judgement.{Judgement}
 use Rattle.session_driver.specs.Runs.{Moves}
 use Rattle.session_driver.specs.declared.drive.Outcome.{Outcome}
 use Rattle.session_driver.specs.declared.drive.Outcome.TheVariants.{Done, Refused, Cut}
-use Rattle.session_verifier.specs.Stages.{Greets, IsBehind, IsHeldJob}
+use Rattle.session_verifier.specs.Stages.{Greets, IsBehind, IsHeldJob, AreUnits}
 use Rattle.session_verifier.specs.Outcomes.{hello_code, judgement_outcome, lease_code, lease_outcome, line_outcome, session_outcome}
 use Rattle.session_verifier.specs.declared.note.VerifierOutcome.{VerifierOutcome}
 use Rattle.session_verifier.specs.declared.note.VerifierOutcome.TheVariants.{NoMemory}
@@ -41,11 +41,6 @@ pub record Leases {R : Type 0} (grants : Grants R) (count : ℕ) (answer : Resul
   pub asked : grants.asked new ≡ Some count
   pub total : grants.total new ≡ grants.total old
   pub moves : grants.moves old count answer new
-
--- these are the job's units, and lie in its file
-pub record AreUnits (job : VerifierJob) (span : Span) : Type 0 where
-  pub units : span.end ≡ span.start + units_of_job job
-  pub within : span.end ≤ job.task.file.params.total
 
 -- ---- the verifier's end
 

@@ -1,27 +1,30 @@
 -- How far a session is at the verifier: which frames are logged where it waits, and why it stops there.
-use Rattle.std.specs.Prelude.{◌≡◌, ◌⊎◌, ℕ, ◌+◌, ◌≤◌, ◌<◌, List, [], ◌∷◌, ◌++◌, flat_map, take, length, true, Option, Some, None, IfSome, Result, Ok, Err}
+use Rattle.std.specs.Prelude.{◌≡◌, ◌⊎◌, ℕ, ◌+◌, ◌≤◌, List, [], ◌∷◌, ◌++◌, flat_map, length, Option, Some, None, Result, Ok, Err}
 use Rattle.zk_model.specs.Program.{section_count}
-use Rattle.zk_model.specs.Files.{IsVerifierFile, rounds_of}
-use Rattle.zk_model.specs.Transcript.{Hello, TreeAsk, Round, IsHello, IsHelloFor, hello_frame, grant_frame, ask_frame, corrections_frame, challenge_frame, sums_frame, refuse_frame, bytes_from, turn_bytes, sent_by, spelling}
-use Rattle.zk_model.specs.Frames.{Frame, hello, Allows, AreElements, AreSums, CanGoOn, IsWhole, IsFirstBad, frame_length, frame_spelling}
+use Rattle.zk_model.specs.Files.{IsVerifierFile}
+use Rattle.zk_model.specs.Transcript.{Hello, Round, IsHello, IsHelloFor, hello_frame, grant_frame, ask_frame, corrections_frame, challenge_frame, sums_frame, openings_frame, verdict_frame, refuse_frame, bytes_from, turn_bytes}
+use Rattle.zk_model.specs.Frames.{Frame, hello, Allows, AreElements, AreSums, IsWhole, frame_spelling}
 use Rattle.zk_model.specs.ServedVerifier.{challenge_coin}
+use Rattle.zk_model.specs.View.{verdict_code, verdict_number}
 use Rattle.zk_model.specs.declared.Expect.{Expect}
-use Rattle.zk_model.specs.declared.Expect.TheVariants as expect
 use Rattle.zk_model.specs.declared.Side.{Side}
 use Rattle.zk_model.specs.declared.Side.TheVariants.{Prover, Verifier}
-use Rattle.zk_port.specs.Counts.{Rose, counted}
-use Rattle.zk_port.specs.Logs.{appended, AppendsPart}
-use Rattle.frame_link.specs.Lines.{LinkSnapshot, counted_times, IsCutShort, IsWithinFrame}
+use Rattle.frame_link.specs.Lines.{LinkSnapshot}
+use Rattle.frame_link.specs.declared.fault.LineFault.{LineFault}
+use Rattle.frame_link.specs.declared.fault.LineFault.TheVariants as line
 use Rattle.session_core.specs.Jobs.{VerifierJob, IsVerifierJob, granted_from, units_of_job}
 use Rattle.session_core.specs.Judgements.{IsJudgement, session_transcript, verdict_in}
 use Rattle.session_core.specs.Rounds.{AreServedRounds, round_turns}
-use Rattle.session_core.specs.Cores.{VerifierStage, AreAsksSoFar, VerifierAnswers, awaits_hello, owes_grant, awaits_asks, awaits_corrections, awaits_sums, awaits_openings, has_judged, has_refused, verifier_expects, DiffersFirst}
+use Rattle.session_core.specs.Cores.{VerifierStage, AreAsksSoFar, VerifierAnswers, VerifierRefuses, awaits_hello, owes_grant, awaits_asks, awaits_corrections, awaits_sums, awaits_openings, has_judged, has_refused, verifier_expects}
+use Rattle.session_core.specs.declared.fault.VerifierFault.{VerifierFault}
 use Rattle.session_core.specs.declared.judgement.Judgement.{Judgement}
+use Rattle.session_driver.specs.Leaving.{ComesAt, GoesWell, IsLostBy, StopsShort, Tries}
 use Rattle.zk_model.specs.declared.Span.{Span}
 use Rattle.lease_store.specs.declared.LeaseFault.{LeaseFault}
-use Rattle.session_verifier.specs.Outcomes.{Refuses, lease_outcome, lease_code, judgement_outcome, refusal_of}
+use Rattle.session_verifier.specs.Outcomes.{hello_code, judgement_outcome, lease_outcome, lease_code, line_outcome, session_outcome}
 use Rattle.session_verifier.specs.declared.note.VerifierOutcome.{VerifierOutcome}
-use Rattle.session_verifier.specs.declared.note.VerifierOutcome.TheVariants.{Accepted, RejectedSum, RejectedOpening, PeerEnded, BadFrame, BadHello, Exhausted, Device, Broken, Link, NoMemory}
+use Rattle.session_verifier.specs.declared.note.VerifierOutcome.TheVariants.{NoMemory}
+use Rattle.session_pool.specs.Notes.{granted_by}
 
 -- ---- the frames that are logged
 
@@ -48,156 +51,62 @@ first_turn job greeting start = (hello_frame greeting.hello, grant_frame (grante
 abbrev pub second_turn : VerifierJob → ℕ → List ℕ → List ℕ × List ℕ
 second_turn job start d = (corrections_frame d, challenge_frame (challenge_coin job.task.file start))
 
+-- sums and openings, and a verdict
+abbrev pub last_turn : List (ℕ × ℕ) → List ℕ → ℕ → ℕ → List ℕ × List ℕ
+last_turn both macs code number = (sums_frame both ++ openings_frame macs, verdict_frame code number)
+
 -- What every job has: a file that is one, and few units.
 pub record IsHeldJob (job : VerifierJob) : Type 0 where
   pub file : IsVerifierFile job.task.file
   pub is : IsVerifierJob job
 
--- a log from the grant of this unit on in which asks of fewer units came than it has
-pub record IsAskedLog (job : VerifierJob) (start : ℕ) (asked : List (List TreeAsk)) (log : List (Side × ℕ)) : Type 0 where
+-- a log from the grant of this unit on: after the first turn these turns are whole, and then the prover said this
+pub record IsTurnsLog (job : VerifierJob) (start : ℕ) (turns : List (List ℕ × List ℕ)) (said : List ℕ) (log : List (Side × ℕ)) : Type 0 where
   pub within : start + units_of_job job ≤ job.task.file.params.total
-  pub so_far : AreAsksSoFar job asked
   pub greeting : Greeting job
-  pub spelled : log ≡ turn_bytes (first_turn job greeting start ∷ []) ++ bytes_from Prover (flat_map ask_frame asked)
+  pub spelled : log ≡ turn_bytes (first_turn job greeting start ∷ turns) ++ bytes_from Prover said
 
--- A log from the grant of this unit on in which the correlations are fixed: the first turn, in kind extended the round of all
--- units with the file's replies, and then these bytes.
-pub record IsFixedLog (job : VerifierJob) (start : ℕ) (more log : List (Side × ℕ)) : Type 0 where
-  pub within : start + units_of_job job ≤ job.task.file.params.total
-  pub greeting : Greeting job
+-- one in which the correlations are fixed: in kind extended by the round of all units with the file's replies, before those turns
+pub record IsFixedLog (job : VerifierJob) (start : ℕ) (turns : List (List ℕ × List ℕ)) (said : List ℕ) (log : List (Side × ℕ)) : Type 0 where
   pub rounds : List Round
   pub served : AreServedRounds job.task.file (granted_from job start) rounds
-  pub spelled : log ≡ turn_bytes (first_turn job greeting start ∷ round_turns rounds) ++ more
+  pub turned : IsTurnsLog job start (round_turns rounds ++ turns) said log
+  pub open turned use *
 
 -- a whole session with a grant from this unit on that was judged so: what the prover sent is as much as the statement wants, in range
 pub record IsJudgedLog (job : VerifierJob) (start : ℕ) (judgement : Judgement) (log : List (Side × ℕ)) : Type 0 where
-  pub within : start + units_of_job job ≤ job.task.file.params.total
-  pub greeting : Greeting job
-  pub rounds : List Round
-  pub served : AreServedRounds job.task.file (granted_from job start) rounds
   pub corrections : List ℕ
   pub elements : AreElements job.task.statement.program.givens corrections
   pub sums : List (ℕ × ℕ)
   pub pairs : AreSums (section_count job.task.statement.program job.section_length) sums
   pub openings : List ℕ
   pub macs : AreElements (length job.task.statement.program.opened) openings
+  pub fixed : IsFixedLog job start (second_turn job start corrections
+      ∷ last_turn sums openings (verdict_code (verdict_in judgement)) (verdict_number (verdict_in judgement)) ∷ []) [] log
+  pub open fixed use *
   pub judged : IsJudgement job.task
       (session_transcript job greeting.hello start rounds corrections sums openings (verdict_in judgement)) judgement
-  pub spelled : log
-      ≡ spelling (session_transcript job greeting.hello start rounds corrections sums openings (verdict_in judgement))
 
 -- What is logged where a verifier waits: the frames that came, each turn with its answer; and how many came of the units' asks.
 abbrev pub IsLogAt : VerifierJob → VerifierStage → List (Side × ℕ) → Type 0
 IsLogAt job awaits_hello log = log ≡ []
 IsLogAt job owes_grant log = IsGreeted job log
-IsLogAt job (awaits_asks start asked) log = IsAskedLog job start asked log
-IsLogAt job (awaits_corrections start) log = IsFixedLog job start [] log
+IsLogAt job (awaits_asks start asked) log = AreAsksSoFar job asked × IsTurnsLog job start [] (flat_map ask_frame asked) log
+IsLogAt job (awaits_corrections start) log = IsFixedLog job start [] [] log
 IsLogAt job (awaits_sums start d) log =
-    AreElements job.task.statement.program.givens d
-    × IsFixedLog job start (turn_bytes (second_turn job start d ∷ [])) log
+    AreElements job.task.statement.program.givens d × IsFixedLog job start (second_turn job start d ∷ []) [] log
 IsLogAt job (awaits_openings start d both) log =
     AreElements job.task.statement.program.givens d
     × AreSums (section_count job.task.statement.program job.section_length) both
-    × IsFixedLog job start (turn_bytes (second_turn job start d ∷ []) ++ bytes_from Prover (sums_frame both)) log
+    × IsFixedLog job start (second_turn job start d ∷ []) (sums_frame both) log
 IsLogAt job (has_judged start judgement) log = IsJudgedLog job start judgement log
 IsLogAt job has_refused log = ⊥
 
--- how many answers of the verifier are sent where it waits: the grant, in kind extended the replies, the challenge, and the verdict
-abbrev pub answers_before : VerifierJob → VerifierStage → ℕ
-answers_before job awaits_hello = 0
-answers_before job owes_grant = 0
-answers_before job (awaits_asks start asked) = 1
-answers_before job (awaits_corrections start) = rounds_of job.task.file.params.kind + 1
-answers_before job (awaits_sums start d) = rounds_of job.task.file.params.kind + 2
-answers_before job (awaits_openings start d both) = rounds_of job.task.file.params.kind + 2
-answers_before job (has_judged start judgement) = rounds_of job.task.file.params.kind + 3
-answers_before job has_refused = 0
-
--- all that was sent is logged, and the link tells it: so many answers, each by one send, none of which was refused
-pub record IsSent (answers : ℕ) (first now : LinkSnapshot) : Type 0 where
-  pub told : now.told ≡ appended now.log first.told
-  pub sends : now.sends ≡ counted_times answers first.sends
-  pub refused_sends : now.refused_sends ≡ first.refused_sends
-
--- after so many answers, the one send of another was refused, and no other: after the log the link tells a first part of it, maybe none
--- or all
-pub record IsUnsent (answers : ℕ) (answer : List ℕ) (first now : LinkSnapshot) : Type 0 where
-  pub count : ℕ
-  pub told : now.told ≡ appended (now.log ++ bytes_from Verifier (take count answer)) first.told
-  pub sends : now.sends ≡ counted_times (answers + 1) first.sends
-  pub refused_sends : now.refused_sends ≡ counted true first.refused_sends
-
 -- ---- why it stops
 
--- the place of the frame that is expected, and bytes that came of it
-abbrev pub ExpectsThere : VerifierJob → VerifierStage → (Expect → Type 0) → Type 0
-ExpectsThere job stage P = (expect : Expect) × (verifier_expects job stage ≡ Some expect) × P expect
-
--- Why a session stops after these bytes of the frame that is expected: the peer has ended and more is wanted; a byte is bad;
--- they are a hello that differs; the link failed; memory was missing.
-abbrev pub StopCause : VerifierJob → VerifierStage → List ℕ → LinkSnapshot → LinkSnapshot → VerifierOutcome → Type 0
-StopCause job stage rest first now (PeerEnded at) =
-    ExpectsThere job stage (λ expect. CanGoOn expect rest × (length rest < frame_length expect rest))
-    × (at ≡ length (sent_by Prover now.log))
-    × IfSome now.ended (λ ended. ended ≡ true)
-    × IfSome now.to_come (λ bytes. bytes ≡ [])
-StopCause job stage rest first now (BadFrame at) =
-    (n : ℕ) × ExpectsThere job stage (λ expect. IsFirstBad expect rest n)
-    × (at + length rest ≡ length (sent_by Prover now.log) + n)
-StopCause job stage rest first now (BadHello differs) =
-    (stage ≡ awaits_hello)
-    × ((other : Hello) × IsHello other × (rest ≡ hello_frame other)
-    × DiffersFirst job.task.file.id job.task.statement other differs)
-StopCause job stage rest first now Link = Rose first.faults now.faults
-StopCause job stage rest first now NoMemory = Unit {0}
-StopCause job stage rest first now Accepted = ⊥
-StopCause job stage rest first now (RejectedSum section left right) = ⊥
-StopCause job stage rest first now (RejectedOpening output left right) = ⊥
-StopCause job stage rest first now (Exhausted at count total) = ⊥
-StopCause job stage rest first now Device = ⊥
-StopCause job stage rest first now (Broken at) = ⊥
-
--- the link failed, or memory was missing
-abbrev pub IsFault : VerifierOutcome → Type 0
-IsFault Link = Unit {0}
-IsFault NoMemory = Unit {0}
-IsFault outcome = ⊥
-
--- the link did not fail
-abbrev pub IsNoLink : VerifierOutcome → Type 0
-IsNoLink Link = ⊥
-IsNoLink outcome = Unit {0}
-
--- the count of failed calls does not fall, and rises only where the link failed
-pub record CountsOutcome (outcome : VerifierOutcome) (first now : LinkSnapshot) : Type 0 where
-  pub later : first.faults ≤ now.faults
-  pub unfailed : IsNoLink outcome → now.faults ≡ first.faults
-
--- these bytes are a frame that came where the verifier waits, and those are what it answers
-pub record IsAnswer (job : VerifierJob) (stage : VerifierStage) (rest answer : List ℕ) : Type 0 where
-  pub frame : Frame
-  pub allowed : ExpectsThere job stage (λ expect. Allows expect frame)
-  pub came : rest ≡ frame_spelling frame
-  pub frames : List Frame
-  pub at_least_one : 1 ≤ length frames
-  pub next : VerifierStage
-  pub answers : VerifierAnswers job stage frame frames next
-  pub answer_is : answer ≡ flat_map frame_spelling frames
-
--- What these bytes are of the frame that is expected, where all answers so far were sent: where the link failed, they begin one
--- of which more are missing; where memory was missing, too, or they are a whole one.
-abbrev pub LeavesFrame : Expect → List ℕ → VerifierOutcome → Type 0
-LeavesFrame expect rest Link = IsCutShort expect rest
-LeavesFrame expect rest NoMemory = IsCutShort expect rest ⊎ ((frame : Frame) × IsWhole expect rest frame)
-LeavesFrame expect rest outcome = Unit {0}
-
--- What was sent where a session stopped after these bytes of a frame: all answers so far, and neither the link's failure nor
--- missing memory is the cause beside a bad byte; or, where the link failed or memory was missing, the send of the answer to the
--- frame was refused.
-abbrev pub SendsUpTo : VerifierJob → VerifierStage → Expect → List ℕ → VerifierOutcome → LinkSnapshot → LinkSnapshot → Type 0
-SendsUpTo job stage expect rest outcome first now =
-    (IsSent (answers_before job stage) first now × LeavesFrame expect rest outcome)
-    ⊎ (IsFault outcome × ((answer : List ℕ) × IsAnswer job stage rest answer × IsUnsent (answers_before job stage) answer first now))
+-- bytes of the frame that is expected where the verifier waits came, and none past it
+abbrev pub ComesThere : VerifierJob → VerifierStage → List (Side × ℕ) → Type 0
+ComesThere job stage log = ComesAt (IsLogAt job) (verifier_expects job) Prover stage log
 
 -- the verifier waits for a frame of a session whose grant begins here, or has judged it
 abbrev pub IsBehind : ℕ → VerifierStage → Type 0
@@ -210,115 +119,127 @@ IsBehind start (awaits_openings begun d both) = begun ≡ start
 IsBehind start (has_judged begun judgement) = begun ≡ start
 IsBehind start has_refused = ⊥
 
--- A session that stopped: what is logged where the verifier waited, and then bytes of the frame that was expected, none past it.
-pub record IsStopped (job : VerifierJob) (stage : VerifierStage) (outcome : VerifierOutcome) (first now : LinkSnapshot) : Type 0 where
-  pub before : List (Side × ℕ)
-  pub waited : IsLogAt job stage before
-  pub expect : Expect
-  pub expected : verifier_expects job stage ≡ Some expect
-  pub rest : List ℕ
-  pub few : IsWithinFrame expect rest
-  pub log : now.log ≡ before ++ bytes_from Prover rest
-  pub cause : StopCause job stage rest first now outcome
-  pub sends : SendsUpTo job stage expect rest outcome first now
-  pub receives : now.receives ≤ first.receives + length (sent_by Prover now.log) + 1
-  pub count : CountsOutcome outcome first now
+-- these bytes are a frame that came where the verifier waits, and those are what it answers
+pub record IsAnswer (job : VerifierJob) (stage : VerifierStage) (place : Expect) (rest answer : List ℕ) : Type 0 where
+  pub frame : Frame
+  pub allowed : Allows place frame
+  pub came : rest ≡ frame_spelling frame
+  pub frames : List Frame
+  pub at_least_one : 1 ≤ length frames
+  pub next : VerifierStage
+  pub answers : VerifierAnswers job stage frame frames next
+  pub answer_is : answer ≡ flat_map frame_spelling frames
 
--- a session stopped after the grant that begins here
-pub record StopsBehind (job : VerifierJob) (start : ℕ) (outcome : VerifierOutcome) (first now : LinkSnapshot) : Type 0 where
+-- Why a session stops after these bytes of the frame that is expected: they are no whole one; or they are, after the grant, and memory
+-- was missing for its answer; or the one send of that was refused.
+abbrev pub StopsAfter :
+    VerifierJob → VerifierStage → List (Side × ℕ) → Expect → List ℕ → LineFault → LinkSnapshot → LinkSnapshot → Type 0
+StopsAfter job stage log place rest fault first now =
+    StopsShort Verifier log place rest fault first now
+    ⊎ ((fault ≡ line.NoMemory) × ((start : ℕ) × IsBehind start stage) × ((frame : Frame) × IsWhole place rest frame) × GoesWell Verifier log first now)
+    ⊎ ((answer : List ℕ) × IsAnswer job stage place rest answer × IsLostBy fault Verifier log answer first now)
+
+-- a session that stopped so where the verifier waits
+pub record IsStopped (job : VerifierJob) (stage : VerifierStage) (fault : LineFault) (first now : LinkSnapshot) : Type 0 where
+  pub comes : ComesThere job stage now.log
+  pub open comes use *
+  pub why : StopsAfter job stage now.log place rest fault first now
+
+-- after the grant that begins here
+pub record StopsBehind (job : VerifierJob) (start : ℕ) (fault : LineFault) (first now : LinkSnapshot) : Type 0 where
   pub stage : VerifierStage
   pub behind : IsBehind start stage
-  pub stopped : IsStopped job stage outcome first now
+  pub stopped : IsStopped job stage fault first now
 
--- ---- refusals
-
--- a refusal of this code is logged, and the link tells it; its send was not refused
-pub record IsRefusalSent (code : ℕ) (old now : LinkSnapshot) : Type 0 where
-  pub log : now.log ≡ old.log ++ bytes_from Verifier (refuse_frame code)
-  pub told : now.told ≡ appended (bytes_from Verifier (refuse_frame code)) old.told
-  pub refused_sends : now.refused_sends ≡ old.refused_sends
-  pub faults : now.faults ≡ old.faults
-
--- its send was refused: it is not logged, and the link tells a first part of it, maybe none or all
-pub record IsRefusalUnsent (code : ℕ) (old now : LinkSnapshot) : Type 0 where
-  pub log : now.log ≡ old.log
-  pub told : AppendsPart (bytes_from Verifier (refuse_frame code)) old.told now.told
-  pub refused_sends : now.refused_sends ≡ counted true old.refused_sends
-
--- A refusal of this code was sent once, in a grant's place: it is logged, unless that send was refused, and counted so. Whether it was
--- changes nothing else but the count of failed calls.
-pub record IsRefusalTried (code : ℕ) (old now : LinkSnapshot) : Type 0 where
-  pub sent : IsRefusalSent code old now ⊎ IsRefusalUnsent code old now
-  pub sends : now.sends ≡ counted true old.sends
-  pub ended : now.ended ≡ old.ended
-  pub to_come : now.to_come ≡ old.to_come
-  pub receives : now.receives ≡ old.receives
-  pub later : old.faults ≤ now.faults
+-- ---- at the hello
 
 -- these bytes are a whole hello
 abbrev pub IsWholeHello : List ℕ → Type 0
 IsWholeHello rest = (hello : Hello) × IsHello hello × (rest ≡ hello_frame hello)
 
--- What the verifier sends where a session stopped at the hello, after these bytes of it: the refusal of its outcome, where they are
--- whole, since they differ, or memory was missing then; else nothing, and where it has a refusal they are cut short.
-abbrev pub RefusesHello : List ℕ → VerifierOutcome → LinkSnapshot → LinkSnapshot → Type 0
-RefusesHello rest outcome old now =
-    ((code : ℕ) × (refusal_of outcome ≡ Some code) × IsWholeHello rest × IsRefusalTried code old now)
-    ⊎ ((Refuses outcome → IsCutShort expect.Hello rest) × (now ≡ old))
+-- after this hello a refusal of this code was sent once, in a grant's place
+abbrev pub RefusesAfter : Hello → ℕ → LinkSnapshot → LinkSnapshot → Type 0
+RefusesAfter said code first now = Tries Verifier (bytes_from Prover (hello_frame said)) (refuse_frame code) first now
 
--- a session in which the verifier waits, or has judged: all that passed is logged, and nothing failed
-pub record IsWaiting (job : VerifierJob) (stage : VerifierStage) (first now : LinkSnapshot) : Type 0 where
-  pub log : IsLogAt job stage now.log
-  pub sent : IsSent (answers_before job stage) first now
-  pub receives : now.receives ≤ first.receives + length (sent_by Prover now.log)
-  pub faults : now.faults ≡ first.faults
+-- a hello came that was not met, for this fault, and a refusal was sent
+pub record IsTurnedAway (job : VerifierJob) (fault : VerifierFault) (first now : LinkSnapshot) : Type 0 where
+  pub said : Hello
+  pub is : IsHello said
+  pub cause : VerifierRefuses job awaits_hello (hello said) fault
+  pub refused : RefusesAfter said (hello_code fault) first now
+
+-- after a hello for the statement a refusal of this code was sent
+pub record IsRefusedGrant (job : VerifierJob) (code : ℕ) (first now : LinkSnapshot) : Type 0 where
+  pub greeting : Greeting job
+  pub refused : RefusesAfter greeting.hello code first now
+
+-- after such a hello, the one send of the grant from this unit on was refused, and nothing followed
+pub record IsGrantUnsent (job : VerifierJob) (start : ℕ) (fault : LineFault) (first now : LinkSnapshot) : Type 0 where
+  pub greeting : Greeting job
+  pub lost : IsLostBy fault Verifier (bytes_from Prover (hello_frame greeting.hello)) (grant_frame (granted_from job start)) first now
+
+-- a session in which the verifier has judged: all that passed is logged, and nothing failed
+pub record IsJudged (job : VerifierJob) (start : ℕ) (judgement : Judgement) (first now : LinkSnapshot) : Type 0 where
+  pub log : IsLogAt job (has_judged start judgement) now.log
+  pub well : GoesWell Verifier now.log first now
 
 -- ---- what came of it
 
--- the hello did not come, or was not met; units were not asked for
-pub record IsUnmet (job : VerifierJob) (outcome : VerifierOutcome) (first now : LinkSnapshot) : Type 0 where
-  pub mid : LinkSnapshot
-  pub stopped : IsStopped job awaits_hello outcome first mid
-  pub refused : RefusesHello stopped.rest outcome mid now
-
--- after a hello for the statement a refusal of this code was sent, in the grant's place
-pub record IsRefusedGrant (job : VerifierJob) (code : ℕ) (first now : LinkSnapshot) : Type 0 where
-  pub mid : LinkSnapshot
-  pub waiting : IsWaiting job owes_grant first mid
-  pub refused : IsRefusalTried code mid now
-
--- the units that were asked for were refused
-pub record IsUnleased (job : VerifierJob) (fault : LeaseFault) (outcome : VerifierOutcome) (first now : LinkSnapshot) : Type 0 where
-  pub named : outcome ≡ lease_outcome fault
-  pub refused : IsRefusedGrant job (lease_code fault) first now
-
--- after such a hello, the one send of the grant from this unit on was refused, and nothing followed
-pub record IsGrantUnsent (job : VerifierJob) (start : ℕ) (outcome : VerifierOutcome) (first now : LinkSnapshot) : Type 0 where
-  pub fault : IsFault outcome
-  pub log : IsLogAt job owes_grant now.log
-  pub unsent : IsUnsent 0 (grant_frame (granted_from job start)) first now
-  pub cause : outcome ≡ Link → Rose first.faults now.faults
-  pub receives : now.receives ≤ first.receives + length (sent_by Prover now.log)
-  pub count : CountsOutcome outcome first now
-
--- the grant from this unit on was not sent: memory was missing for it, and it was refused; or its one send was refused
-abbrev pub LacksTheGrant : VerifierJob → ℕ → VerifierOutcome → LinkSnapshot → LinkSnapshot → Type 0
-LacksTheGrant job start outcome first now =
-    ((outcome ≡ NoMemory) × IsRefusedGrant job 4 first now) ⊎ IsGrantUnsent job start outcome first now
-
--- These units were leased: their grant was not sent; or the session stopped after it; or it was judged.
-pub record IsGranted (job : VerifierJob) (span : Span) (outcome : VerifierOutcome) (first now : LinkSnapshot) : Type 0 where
+-- these are the job's units, and lie in its file
+pub record AreUnits (job : VerifierJob) (span : Span) : Type 0 where
   pub units : span.end ≡ span.start + units_of_job job
   pub within : span.end ≤ job.task.file.params.total
-  pub course :
-      LacksTheGrant job span.start outcome first now
-      ⊎ StopsBehind job span.start outcome first now
-      ⊎ ((judgement : Judgement) × (outcome ≡ judgement_outcome judgement)
-      × IsWaiting job (has_judged span.start judgement) first now)
 
--- what came of a session, by what the one who leases units answered, if it was asked
-abbrev pub IsCourse :
-    VerifierJob → Option (Result Span LeaseFault) → Option Span → VerifierOutcome → LinkSnapshot → LinkSnapshot → Type 0
-IsCourse job None granted outcome first now = (granted ≡ None) × IsUnmet job outcome first now
-IsCourse job (Some (Err fault)) granted outcome first now = (granted ≡ None) × IsUnleased job fault outcome first now
-IsCourse job (Some (Ok span)) granted outcome first now = (granted ≡ Some span) × IsGranted job span outcome first now
+-- How a session ended. The hello did not come; it was not met; units were refused. Or these were leased: memory was missing for their
+-- grant; its send was refused; no frame came after it, or none was answered; all of it was judged.
+pub data Ending : Type 0 where
+  lacks_hello : LineFault → Ending
+  turns_away : VerifierFault → Ending
+  lacks_units : LeaseFault → Ending
+  lacks_grant : Span → Ending
+  loses_grant : Span → LineFault → Ending
+  stops_behind : Span → LineFault → Ending
+  judges : Span → Judgement → Ending
+
+-- what the one who leases units answered then, if it was asked
+abbrev pub answer_at : Ending → Option (Result Span LeaseFault)
+answer_at (lacks_hello fault) = None
+answer_at (turns_away fault) = None
+answer_at (lacks_units fault) = Some (Err fault)
+answer_at (lacks_grant span) = Some (Ok span)
+answer_at (loses_grant span fault) = Some (Ok span)
+answer_at (stops_behind span fault) = Some (Ok span)
+answer_at (judges span judgement) = Some (Ok span)
+
+-- and by which outcome it is noted
+abbrev pub outcome_at : Ending → VerifierOutcome
+outcome_at (lacks_hello fault) = line_outcome fault
+outcome_at (turns_away fault) = session_outcome fault
+outcome_at (lacks_units fault) = lease_outcome fault
+outcome_at (lacks_grant span) = NoMemory
+outcome_at (loses_grant span fault) = line_outcome fault
+outcome_at (stops_behind span fault) = line_outcome fault
+outcome_at (judges span judgement) = judgement_outcome judgement
+
+-- it ended so
+abbrev pub HasEnding : VerifierJob → Ending → LinkSnapshot → LinkSnapshot → Type 0
+HasEnding job (lacks_hello fault) first now = IsStopped job awaits_hello fault first now
+HasEnding job (turns_away fault) first now = IsTurnedAway job fault first now
+HasEnding job (lacks_units fault) first now = IsRefusedGrant job (lease_code fault) first now
+HasEnding job (lacks_grant span) first now = AreUnits job span × IsRefusedGrant job 4 first now
+HasEnding job (loses_grant span fault) first now = AreUnits job span × IsGrantUnsent job span.start fault first now
+HasEnding job (stops_behind span fault) first now = AreUnits job span × StopsBehind job span.start fault first now
+HasEnding job (judges span judgement) first now = AreUnits job span × IsJudged job span.start judgement first now
+
+-- what came of a session
+pub record IsCourse
+    (job : VerifierJob)
+    (answer : Option (Result Span LeaseFault))
+    (granted : Option Span)
+    (outcome : VerifierOutcome)
+    (first now : LinkSnapshot) : Type 0 where
+  pub ending : Ending
+  pub answer_is : answer ≡ answer_at ending
+  pub granted_is : granted ≡ granted_by (answer_at ending)
+  pub outcome_is : outcome ≡ outcome_at ending
+  pub has : HasEnding job ending first now

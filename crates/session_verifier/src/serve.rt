@@ -4,19 +4,19 @@ ghost use Rattle.zk_model.specs.Frames as model;
 ghost use Rattle.zk_model.specs.Frames.{Allows};
 ghost use Rattle.zk_model.specs.declared.Expect.TheVariants as expect;
 ghost use Rattle.zk_model.specs.declared.Side.TheVariants.{Prover, Verifier};
-ghost use Rattle.zk_port.specs.Logs.{put_before};
 ghost use Rattle.frame_link.specs.Lines.{snapshot_of};
 ghost use Rattle.proof_frames.specs.Frames.{frame_value, IsShort};
 ghost use Rattle.session_core.specs.Jobs.{TakesHello, all_jobs, granted_from, noted_job, units_of_job};
-ghost use Rattle.zk_model.specs.Transcript.{Hello, IsHello, sent_by};
+ghost use Rattle.zk_model.specs.Transcript.{Hello, IsHello};
 ghost use Rattle.zk_model.specs.declared.limits.TheConstants.{MAX_UNITS};
 ghost use Rattle.session_core.specs.Cores.{VerifierAnswers, VerifierRefuses, awaits_hello, owes_grant, behind_grant, judgement_at, verifier_expects};
+ghost use Rattle.session_driver.specs.Leaving.{HasCome};
 ghost use Rattle.session_driver.specs.Runs.{IsFresh};
 ghost use Rattle.session_driver.specs.declared.drive.Outcome.TheVariants.{Done};
 ghost use Rattle.session_verifier.specs.Outcomes.{hello_code, lease_code, session_outcome};
-ghost use Rattle.session_verifier.specs.Serving.{AnswersBehind, AreUnits, GrantsUnits, IsPlace, IsServing, IsToldAs, LacksGrantFrame, Leases, RefusesBehind, RefusesHello, RefusesLease, frames_left, grants_of, lack_code_at, served, serves};
+ghost use Rattle.session_verifier.specs.Serving.{AnswersBehind, GrantsUnits, IsPlace, IsServing, IsToldAs, LacksGrantFrame, Leases, RefusesBehind, RefusesHello, RefusesLease, frames_left, grants_of, lack_code_at, served, serves};
 ghost use Rattle.session_verifier.specs.Notes.{TakesStatement};
-ghost use Rattle.session_verifier.specs.Stages.{IsBehind, Greets, IsCourse, IsHeldJob};
+ghost use Rattle.session_verifier.specs.Stages.{AreUnits, IsBehind, Greets, IsCourse, IsHeldJob};
 ghost use Rattle.session_verifier.specs.declared.note.VerifierOutcome.TheVariants.{NoMemory};
 
 use crate::note::VerifierOutcome;
@@ -216,45 +216,6 @@ fn answer<H: Threads + Sync>(
     }
 }
 
-/// Takes a frame that is expected, and hands back what is answered.
-fn step<'a, H: Threads + Sync, R: Grantor>(
-    rt: &H,
-    alloc: Global,
-    jobs: &'a VerifierJobs<'a>,
-    core: &mut VerifierCore<'a>,
-    taken: &mut Option<u32>,
-    granted: &mut Option<Span>,
-    grantor: &mut R,
-    frame: Frame,
-) -> Result<Vec<Frame>, Refusal<VerifierOutcome>>
-    requires expected { IsSomeAnd (verifier_expects core.old.job core.old.stage)
-        (λ place. Allows place (frame_value frame)) }
-    requires holds { IsServing (grants_of R.answer R.asked R.total R.may R.moves)
-        (served jobs.now core.old taken.old granted.old grantor.old) }
-    ensures answered { IfOk result (λ answer.
-        (serves (grants_of R.answer R.asked R.total R.may R.moves)).answers
-        (served jobs.now core.old taken.old granted.old grantor.old) (frame_value frame)
-        (map frame_value answer.items)
-        (served jobs.now core.new taken.new granted.new grantor.new)) }
-    ensures short { IfOk result (λ answer. All IsShort (map frame_value answer.items)) }
-    ensures refused { IfErr result (λ refusal.
-        (serves (grants_of R.answer R.asked R.total R.may R.moves)).refuses
-        (served jobs.now core.old taken.old granted.old grantor.old) (frame_value frame)
-        refusal.fault refusal.code
-        (served jobs.now core.new taken.new granted.new grantor.new)) }
-    ensures coded { IfErr result (λ refusal.
-        IfSome refusal.code (λ _. IsSome (lack_code_at core.old.stage))) }
-    ensures fewer { OnOk result
-        (frames_left core.new.job core.new.stage < frames_left core.old.job core.old.stage) }
-    ensures holds { OnOk result (IsServing (grants_of R.answer R.asked R.total R.may R.moves)
-        (served jobs.now core.new taken.new granted.new grantor.new)) }
-{
-    match *granted {
-        None => grant_units(alloc, jobs, core, taken, granted, grantor, frame),
-        Some(span) => answer(rt, alloc, jobs.noted(*taken), core, frame, span),
-    }
-}
-
 impl<'a, R: Grantor> Party<R> for Serving<'a> {
     ghost use Rattle.std.specs.Prelude.{[]};
     ghost use Rattle.session_core.specs.Cores.{verifier_expects};
@@ -305,16 +266,21 @@ impl<'a, R: Grantor> Party<R> for Serving<'a> {
         asked: &mut R,
         frame: Frame,
     ) -> Result<Vec<Frame>, Refusal<VerifierOutcome>> {
-        step(
-            rt,
-            alloc,
-            self.jobs,
-            &mut self.core,
-            &mut self.taken,
-            &mut self.granted,
-            asked,
-            frame,
-        )
+        match self.granted {
+            None => grant_units(
+                alloc,
+                self.jobs,
+                &mut self.core,
+                &mut self.taken,
+                &mut self.granted,
+                asked,
+                frame,
+            ),
+            Some(span) => {
+                let job = self.jobs.noted(self.taken);
+                answer(rt, alloc, job, &mut self.core, frame, span)
+            }
+        }
     }
 }
 
@@ -363,7 +329,7 @@ pub(crate) fn serve<H: Threads + Sync, L: Link, R: Grantor>(
         result.outcome line.new.log }
     ensures course { IsCourse (noted_job jobs.now result.taken) (R.answer grantor.new) result.granted
         result.outcome (snapshot_of line.old) (snapshot_of line.new) }
-    ensures came { line.old.to_come ≡ put_before (sent_by Prover line.new.log) line.new.to_come }
+    ensures come { HasCome Prover (snapshot_of line.old) (snapshot_of line.new) }
     ensures within { IfSome result.taken (λ n. n < length (all_jobs jobs.now)) }
     ensures side { line.new.side ≡ Verifier }
     ensures open_still { IsTrue line.new.is_open }

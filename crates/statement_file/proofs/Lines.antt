@@ -10,7 +10,7 @@ use Rattle.std.proofs.lemmas.List.Splits.{length-slice_split, slice_split_first,
 use Rattle.std.proofs.lemmas.List.Sums.{position_or_len_is, fails_before_first}
 use Rattle.std.proofs.lemmas.Str.{IsUtf8-from_is_utf8, is_utf8-from_IsUtf8}
 use Rattle.command_words.specs.BitWords.{bits_of}
-use Rattle.statement_file.specs.Claims.{claim_in, claim_of, lines_of, named_claim, without_empty_last, words_of}
+use Rattle.statement_file.specs.Claims.{claim_in, claim_of_line, lines_of, named_claim, without_empty_last, words_of}
 
 -- none passes where the first that does is behind all
 none_passes : (p : ℕ → Bool) (xs : List ℕ) → length xs ≤ position_or_len p xs → All (λ x. p x ≡ false) xs
@@ -62,7 +62,7 @@ first_word text word rest within before after =
     slice_split_first is_space text 0 within ∙ ap (λ w. w ∷ words_of (after_first is_space text)) (sym before) ∙ ap (λ r. word ∷ words_of r) (sym after)
 
 -- a line that is UTF-8 names what its words do
-pub claim_by_words : (line : List ℕ) (words : List (List ℕ)) → IsUtf8 line → words_of line ≡ words → claim_of line ≡ claim_in words
+pub claim_by_words : (line : List ℕ) (words : List (List ℕ)) → IsUtf8 line → words_of line ≡ words → claim_of_line line ≡ claim_in words
 claim_by_words line words valid same =
     subst (λ (b : Bool). (if b then claim_in (words_of line) else None) ≡ claim_in words) (sym (is_utf8-from_IsUtf8 line valid)) (ap claim_in same)
 
@@ -79,7 +79,7 @@ pub behind_line : (text : List ℕ) (n : ℕ) → take (length text - n) (drop n
 behind_line text n = grind (arith, common_steps)
 
 -- nor does a line that is not UTF-8
-pub names_none : (line : List ℕ) → (IsUtf8 line → ⊥) → None ≡ claim_of line
+pub names_none : (line : List ℕ) → (IsUtf8 line → ⊥) → None ≡ claim_of_line line
 names_none line invalid = elim (is_utf8 line) as (λ b. is_utf8 line ≡ b → None ≡ (if b then claim_in (words_of line) else None)) [
   | true ↦ λ valid. absurd (invalid (IsUtf8-from_is_utf8 line valid))
   | false ↦ λ _. refl
@@ -88,7 +88,7 @@ names_none line invalid = elim (is_utf8 line) as (λ b. is_utf8 line ≡ b → N
 -- a line of three words, of which the first is not empty and the others say bits
 pub names_claim : (line circuit public outputs : List ℕ) (bits claimed : List Bool) → IsUtf8 line → words_of line ≡ circuit ∷ public ∷ outputs ∷ []
     → (length circuit == 0) ≡ false → bits_of public ≡ Some bits → bits_of outputs ≡ Some claimed
-    → Some (named_claim circuit bits claimed) ≡ claim_of line
+    → Some (named_claim circuit bits claimed) ≡ claim_of_line line
 names_claim line circuit public outputs bits claimed valid words some first second =
     sym (claim_by_words line (circuit ∷ public ∷ outputs ∷ []) valid words
     ∙ (rw (some, first, second) refl))

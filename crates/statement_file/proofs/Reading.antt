@@ -8,14 +8,14 @@ use Rattle.std.proofs.lemmas.List.{get_or_append_left, length-map, map-append, t
 use Rattle.std.proofs.lemmas.List.Sums.{position_or_len_is}
 use Rattle.std.proofs.lemmas.Grind.{common_steps}
 use Rattle.zk_model.specs.declared.limits.TheConstants.{MAX_STATEMENTS}
-use Rattle.statement_file.specs.Claims.{NamedClaim, SaysClaims, claim_of, first_bad, lines_of}
+use Rattle.statement_file.specs.Claims.{NamedClaim, NamesClaims, claim_of_line, first_bad, lines_of}
 
 -- these lines were read, each naming a claim, and the claims of the first of them are kept; the others are still to be read
 pub record Reads (text rest : List ℕ) (count : ℕ) (kept : List NamedClaim) : Type 0 where
   pub lines : List (List ℕ)
   pub claims : List NamedClaim
   pub whole : lines_of text ≡ lines ++ lines_of rest
-  pub named : map claim_of lines ≡ map Some claims
+  pub named : map claim_of_line lines ≡ map Some claims
   pub counted : length lines ≡ count
   pub fits : count + length rest ≤ length text
   pub kept_are : kept ≡ take MAX_STATEMENTS claims
@@ -29,15 +29,15 @@ length-take_le : (claims : List NamedClaim) (n : ℕ) → length (take n claims)
 length-take_le claims n = grind (arith, common_steps)
 
 abbrev is_bad : List ℕ → Bool
-is_bad line = is_none (claim_of line)
+is_bad line = is_none (claim_of_line line)
 
 -- none of lines that name claims is bad
-none_bad : (lines : List (List ℕ)) (claims : List NamedClaim) → map claim_of lines ≡ map Some claims → (k : ℕ) (d : List ℕ) → k < length lines
-    → is_none (claim_of (get_or lines k d)) ≡ false
+none_bad : (lines : List (List ℕ)) (claims : List NamedClaim) → map claim_of_line lines ≡ map Some claims → (k : ℕ) (d : List ℕ) → k < length lines
+    → is_none (claim_of_line (get_or lines k d)) ≡ false
 none_bad [] claims named k d within = absurd (omega (arith, within))
 none_bad (line ∷ lines) [] named k d within = cc
 none_bad (line ∷ lines) (claim ∷ claims) named zero d within =
-    let is : claim_of line ≡ Some claim = cc in ap is_none is
+    let is : claim_of_line line ≡ Some claim = cc in ap is_none is
 none_bad (line ∷ lines) (claim ∷ claims) named (suc k) d within =
     none_bad lines claims (cc) k d (omega (arith, within))
 
@@ -52,15 +52,15 @@ begins text = record {
   kept_are = refl;
 }
 
-map_push : (lines : List (List ℕ)) (claims : List NamedClaim) (line : List ℕ) (claim : NamedClaim) → map claim_of lines ≡ map Some claims
-    → Some claim ≡ claim_of line → map claim_of (lines ++ line ∷ []) ≡ map Some (claims ++ claim ∷ [])
+map_push : (lines : List (List ℕ)) (claims : List NamedClaim) (line : List ℕ) (claim : NamedClaim) → map claim_of_line lines ≡ map Some claims
+    → Some claim ≡ claim_of_line line → map claim_of_line (lines ++ line ∷ []) ≡ map Some (claims ++ claim ∷ [])
 map_push lines claims line claim named is =
-    map-append claim_of lines (line ∷ []) ∙ ap (λ front. front ++ claim_of line ∷ []) named ∙ ap (λ last. map Some claims ++ last ∷ []) (sym is)
+    map-append claim_of_line lines (line ∷ []) ∙ ap (λ front. front ++ claim_of_line line ∷ []) named ∙ ap (λ last. map Some claims ++ last ∷ []) (sym is)
     ∙ sym (map-append (λ (c : NamedClaim). Some c) claims (claim ∷ []))
 
 -- one line more
 step : (text rest line behind : List ℕ) (count : ℕ) (kept more : List NamedClaim) (claim : NamedClaim) (before : Reads text rest count kept)
-    → lines_of rest ≡ line ∷ lines_of behind → length behind < length rest → Some claim ≡ claim_of line
+    → lines_of rest ≡ line ∷ lines_of behind → length behind < length rest → Some claim ≡ claim_of_line line
     → more ≡ take MAX_STATEMENTS (before.claims ++ claim ∷ []) → Reads text behind (count + 1) more
 step text rest line behind count kept more claim before split shorter is more_are = record {
   lines = before.lines ++ line ∷ [];
@@ -74,7 +74,7 @@ step text rest line behind count kept more claim before split shorter is more_ar
 
 -- which is kept, where there is room
 pub step_kept : (text rest line behind : List ℕ) (count : ℕ) (kept more : List NamedClaim) (claim : NamedClaim) → Reads text rest count kept
-    → lines_of rest ≡ line ∷ lines_of behind → length behind < length rest → Some claim ≡ claim_of line
+    → lines_of rest ≡ line ∷ lines_of behind → length behind < length rest → Some claim ≡ claim_of_line line
     → more ≡ take MAX_STATEMENTS (kept ++ claim ∷ []) → Reads text behind (count + 1) more
 step_kept text rest line behind count kept more claim before split shorter is more_are =
     step text rest line behind count kept more claim before split shorter is
@@ -99,7 +99,7 @@ none_is p lines same = grind (arith, nat_tests, same)
 
 -- a line that names no claim is the first bad one
 pub bad_line : (text rest line behind : List ℕ) (count : ℕ) (kept : List NamedClaim) → Reads text rest count kept → lines_of rest ≡ line ∷ lines_of behind
-    → None ≡ claim_of line → first_bad text ≡ Some count
+    → None ≡ claim_of_line line → first_bad text ≡ Some count
 bad_line text rest line behind count kept is split none =
     let whole : lines_of text ≡ is.lines ++ line ∷ lines_of behind = is.whole ∙ ap (λ (l : List (List ℕ)). is.lines ++ l) split in
     let counted = is.counted in
@@ -116,7 +116,7 @@ bad_line text rest line behind count kept is split none =
     (position_or_len_is is_bad (is.lines ++ line ∷ lines_of behind) count [] (omega (arith, within)) before (λ _. at)))
 
 -- no line of those that name claims is bad
-pub none_first : (lines : List (List ℕ)) (claims : List NamedClaim) → map claim_of lines ≡ map Some claims → position is_bad lines ≡ None
+pub none_first : (lines : List (List ℕ)) (claims : List NamedClaim) → map claim_of_line lines ≡ map Some claims → position is_bad lines ≡ None
 none_first lines claims named =
     none_is is_bad lines (position_or_len_is is_bad lines (length lines) [] (omega arith)
     (λ k low. none_bad lines claims named k [] low) (λ within. absurd (omega (arith, within))))
@@ -129,13 +129,13 @@ good_lines text rest count kept is none =
 
 -- what is kept, where 1 to 256 lines were read
 pub all_kept : (text rest : List ℕ) (count : ℕ) (kept : List NamedClaim) → Reads text rest count kept → length rest ≡ 0 → 1 ≤ count → count ≤ MAX_STATEMENTS
-    → SaysClaims text kept
+    → NamesClaims text kept
 all_kept text rest count kept is none some few =
     let counted = is.counted in
-    let same : length is.lines ≡ length is.claims = sym (length-map is.lines claim_of) ∙ ap length is.named ∙ length-map is.claims (λ (c : NamedClaim). Some c) in
+    let same : length is.lines ≡ length is.claims = sym (length-map is.lines claim_of_line) ∙ ap length is.named ∙ length-map is.claims (λ (c : NamedClaim). Some c) in
     let whole : kept ≡ is.claims = is.kept_are ∙ take_all MAX_STATEMENTS is.claims (omega (arith, same, counted, few)) in
-    subst (λ (k : List NamedClaim). SaysClaims text k) (sym whole) (record {
-      named = ap (map claim_of) (all_read text rest count kept is none) ∙ is.named;
+    subst (λ (k : List NamedClaim). NamesClaims text k) (sym whole) (record {
+      named = ap (map claim_of_line) (all_read text rest count kept is none) ∙ is.named;
       some = omega (arith, same, counted, some);
       few = omega (arith, same, counted, few);
     })

@@ -45,20 +45,20 @@ claim_in (circuit ∷ public ∷ outputs ∷ []) =
 claim_in words = None
 
 -- of a line that is UTF-8
-abbrev pub claim_of : List ℕ → Option NamedClaim
-claim_of line = if is_utf8 line then claim_in (words_of line) else None
+abbrev pub claim_of_line : List ℕ → Option NamedClaim
+claim_of_line line = if is_utf8 line then claim_in (words_of line) else None
 
 -- ---- what a text says
 
 -- each line names one of these claims, in order; there are 1 to 256
-pub record SaysClaims (text : List ℕ) (claims : List NamedClaim) : Type 0 where
-  pub named : map claim_of (lines_of text) ≡ map Some claims
+pub record NamesClaims (text : List ℕ) (claims : List NamedClaim) : Type 0 where
+  pub named : map claim_of_line (lines_of text) ≡ map Some claims
   pub some : 1 ≤ length claims
   pub few : length claims ≤ MAX_STATEMENTS
 
 -- the first line that names no claim, counted from 0, if there is one
 abbrev pub first_bad : List ℕ → Option ℕ
-first_bad text = position (λ line. is_none (claim_of line)) (lines_of text)
+first_bad text = position (λ line. is_none (claim_of_line line)) (lines_of text)
 
 -- the one fault of a text: its first line that names no claim; or, where each names one, how many there are, none or more than 256
 abbrev pub HasFault : List ℕ → StatementFault → Type 0

@@ -2,7 +2,7 @@
 ghost use Rattle.std.specs.Prelude.{◌≡◌, ◌==◌, ◌∷◌, ◌++◌, [], ◌<◌, ◌≤◌, None, IfOk, IfErr, IfSome, IfNone, OnOk, length, position, take};
 ghost use Rattle.zk_model.specs.declared.limits.TheConstants.{MAX_STATEMENTS};
 ghost use Rattle.statement_file.specs.declared.fault.StatementError.TheVariants as error;
-ghost use Rattle.statement_file.specs.Claims.{SaysClaims, SaysNoClaims, claim_in, claim_of, lines_of, words_of};
+ghost use Rattle.statement_file.specs.Claims.{NamesClaims, SaysNoClaims, claim_in, claim_of_line, lines_of, words_of};
 
 use crate::claim::NamedClaim;
 use crate::fault::{StatementError, StatementFault};
@@ -55,7 +55,7 @@ fn three_words(line: &str) -> Option<(&str, &str, &str)>
 
 /// The claim that a line names, if it names one.
 fn read_line(alloc: Global, line: &[u8]) -> Result<Option<NamedClaim>, AllocError>
-    ensures { IfOk result (λ found. found ≡ claim_of line.now) }
+    ensures { IfOk result (λ found. found ≡ claim_of_line line.now) }
 {
     let Ok(text) = str::from_utf8(line) else {
         return Ok(None);
@@ -93,7 +93,7 @@ fn keep(claims: &mut Vec<NamedClaim>, claim: NamedClaim) -> Result<(), AllocErro
 /// `StatementFault::BadLine` where a line names none, and of the first such line; `StatementFault::Count` where each line
 /// names one, but there are none or more than 256; `StatementError::NoMemory` where memory is missing.
 pub fn read_statements(alloc: Global, text: &[u8]) -> Result<Vec<NamedClaim>, StatementError>
-    ensures claims { IfOk result (λ claims. SaysClaims text.now claims.items) }
+    ensures claims { IfOk result (λ claims. NamesClaims text.now claims.items) }
     ensures fault { IfErr result (SaysNoClaims text.now) }
 {
     let mut claims = Vec::new(alloc);

@@ -3,15 +3,15 @@ use Rattle.std.proofs.Common.{◌≡◌, ◌<◌, ◌≤◌, ◌-◌, ◌+◌, �
 use Rattle.std.proofs.lemmas.Bool.Decides.{nat_tests}
 use Rattle.std.proofs.lemmas.List.Sums.{sum_by-cons}
 use Rattle.std.specs.Prelude.{sum_by}
-use Rattle.zk_model.specs.ClaimedRanges.{RiseFrom}
-use Rattle.zk_model.specs.Journals.{AreSound, body_before, keeps_rule}
+use Rattle.claim_store.specs.ClaimedRanges.{RiseFrom}
+use Rattle.lease_journal.specs.Journals.{AreSound, body_before, keeps_rule}
 use Rattle.zk_model.specs.declared.JournalKind.TheVariants.{Ceilings}
 use Rattle.zk_model.specs.declared.Params.{Params}
 use Rattle.zk_model.specs.declared.Span.{Span}
 use Rattle.zk_port.specs.Disks.{Choice}
 use Rattle.zk_port.specs.Files.{Files}
 use Rattle.lease_store.specs.Ceilings.{SaysCeiling}
-use Rattle.dealer_files.specs.Faults.{IsFirstFault}
+use Rattle.dealer_files.specs.Faults.{IsFirstFileFault}
 use Rattle.dealer_files.specs.declared.fault.FileFault.{FileFault}
 use Rattle.file_commands.specs.Effects.{ShelfChange}
 use Rattle.file_commands.specs.Stops.{IsLoaded}
@@ -54,9 +54,9 @@ has_asked told (Some name) params units takes = (takes.circuit, takes.file)
 
 -- a dealt file can't be had whose bytes are none
 pub dealt_of_bytes : (name : List ℕ) (shelf : ShelfChange) (text read : List ℕ) (fault : FileFault) → IsLoaded shelf.old.told name text
-    → read ≡ text → IsFirstFault (side_in read) read fault → DealtStop name shelf (BadFile fault)
+    → read ≡ text → IsFirstFileFault (side_in read) read fault → DealtStop name shelf (BadFile fault)
 dealt_of_bytes name shelf text read fault loaded same first =
-    record { text = text; loaded = loaded; says = subst (λ (bytes : List ℕ). IsFirstFault (side_in bytes) bytes fault) same first }
+    record { text = text; loaded = loaded; says = subst (λ (bytes : List ℕ). IsFirstFileFault (side_in bytes) bytes fault) same first }
 
 -- ---- the disk
 

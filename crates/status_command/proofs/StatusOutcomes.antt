@@ -10,7 +10,7 @@ use Rattle.lease_journal.specs.declared.fault.StartFault.TheVariants as start
 use Rattle.lease_store.specs.Laws.{CeilingsStartAgain}
 use Rattle.claim_store.specs.Causes.{ClaimsStartAgain}
 use Rattle.claim_store.specs.declared.fault.StoreFault.TheVariants as store
-use Rattle.dealer_files.specs.Faults.{IsDealtFile, IsFirstFault}
+use Rattle.dealer_files.specs.Faults.{IsDealtFile, IsFirstFileFault}
 use Rattle.command_words.specs.Words.{StatusAsk}
 use Rattle.file_commands.specs.Effects.{ShelfChange, Effects, NameFailed, OnlyLoads, IsDone}
 use Rattle.file_commands.specs.Journals.{DiskChange, IsCeilingsFault, IsClaimsFault, JournalStop, OnlyReads, read_journal}
@@ -103,7 +103,7 @@ of_side name shelf tells dealt (stop.BadFile fault) cause =
     record {
       text = cause.text;
       loaded = cause.loaded;
-      says = subst (λ (side : Side). IsFirstFault side cause.text fault) (ap side_in same) cause.says;
+      says = subst (λ (side : Side). IsFirstFileFault side cause.text fault) (ap side_in same) cause.says;
     }
 of_side name shelf tells dealt other cause = cause
 

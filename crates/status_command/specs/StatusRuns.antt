@@ -4,12 +4,12 @@ use Rattle.std.specs.Fmt.{decimal}
 use Rattle.hex.specs.Hex.{encode_lower}
 use Rattle.zk_model.specs.Boolean.{circuit_program}
 use Rattle.zk_model.specs.Circuit.{Circuit}
-use Rattle.zk_model.specs.ClaimedRanges.{RiseFrom}
+use Rattle.claim_store.specs.ClaimedRanges.{RiseFrom}
 use Rattle.zk_model.specs.FileBytes.{prover_file_bytes, verifier_file_bytes}
 use Rattle.zk_model.specs.Files.{ProverFile, VerifierFile, IsProverFile, IsVerifierFile}
 use Rattle.zk_model.specs.Program.{correlations_needed}
 use Rattle.zk_model.specs.Transcript.{units_for}
-use Rattle.zk_model.specs.Twins.{HoldsTwin}
+use Rattle.lease_journal.specs.Twins.{HoldsTwin}
 use Rattle.zk_model.specs.declared.JournalKind.TheVariants.{Claims}
 use Rattle.zk_model.specs.declared.Kind.{Kind}
 use Rattle.zk_model.specs.declared.Kind.TheVariants.{Direct, Extended}
@@ -24,7 +24,7 @@ use Rattle.zk_port.specs.Files.{Files}
 use Rattle.lease_journal.specs.declared.fault.StartFault.{StartFault}
 use Rattle.lease_store.specs.Ceilings.{SaysCeiling}
 use Rattle.claim_store.specs.Claims.{SaysClaims}
-use Rattle.dealer_files.specs.Faults.{IsDealtFile, IsFirstFault}
+use Rattle.dealer_files.specs.Faults.{IsDealtFile, IsFirstFileFault}
 use Rattle.command_words.specs.Words.{StatusAsk}
 use Rattle.file_commands.specs.Effects.{ShelfChange, SinkFailed, Effects, OnlyLoads, HasFailed, IsDone}
 use Rattle.file_commands.specs.Journals.{DiskChange, HasClaims, IsCeilingsFault, IsClaimsFault, IsUntouched, JournalStop, LeavesUnits, OnlyReads, OpensJournal, read_journal}
@@ -160,7 +160,7 @@ pub record HasStatus (ask : StatusAsk) (told : Option Files) (disk : DiskChange)
 
 -- why there is no dealt file under the name: its bytes are none of the side that they say, and this is the first fault; or it can't be loaded
 abbrev pub DealtStop : List ℕ → ShelfChange → Refusal → Type 0
-DealtStop name shelf (BadFile fault) = HasText shelf.old.told name (λ bytes. IsFirstFault (side_in bytes) bytes fault)
+DealtStop name shelf (BadFile fault) = HasText shelf.old.told name (λ bytes. IsFirstFileFault (side_in bytes) bytes fault)
 DealtStop name shelf other = LoadStop name shelf other
 
 -- why the circuit that is asked about can't be had
@@ -201,11 +201,11 @@ StatusStop ask shelf disk stop = (LacksFile ask shelf stop × IsUntouched disk) 
 -- ---- what a run promises
 
 -- the names of the files that are loaded
-abbrev pub IsCircuitName : Option (List ℕ) → List ℕ → Type 0
-IsCircuitName circuit name = circuit ≡ Some name
+abbrev pub IsReportedName : Option (List ℕ) → List ℕ → Type 0
+IsReportedName circuit name = circuit ≡ Some name
 
 abbrev pub IsStatusName : StatusAsk → List ℕ → Type 0
-IsStatusName ask name = (name ≡ ask.file) ⊎ IsCircuitName ask.circuit name
+IsStatusName ask name = (name ≡ ask.file) ⊎ IsReportedName ask.circuit name
 
 -- the lines of the status are written, or that of a stop, which has its cause
 abbrev pub StatusLines : StatusAsk → DiskChange → Effects → Type 0

@@ -2,7 +2,7 @@
 ghost use Rattle.std.specs.Prelude.{◌≡◌, IfOk, IfErr, OnOk};
 ghost use Rattle.zk_model.specs.Files.{AreParams};
 ghost use Rattle.zk_port.specs.Changes.{change};
-ghost use Rattle.dealer_files.specs.Faults.{IsFirstFault};
+ghost use Rattle.dealer_files.specs.Faults.{IsFirstFileFault};
 ghost use Rattle.file_commands.specs.Effects.{IsName, OnlyLoads};
 ghost use Rattle.status_command.specs.StatusRuns.{DealtStop, IsDealing, IsDealingOf, dealing_of, side_in};
 
@@ -62,7 +62,7 @@ fn side_in(bytes: &[u8]) -> Side
 /// The dealt file that these bytes are, of the side that they say.
 fn decode_dealt(alloc: Global, bytes: &[u8]) -> Result<DealtFile, FileFault>
     ensures file { IfOk result (λ file. IsDealingOf bytes.now (dealing_of file)) }
-    ensures fault { IfErr result (λ fault. IsFirstFault (side_in bytes.now) bytes.now fault) }
+    ensures fault { IfErr result (λ fault. IsFirstFileFault (side_in bytes.now) bytes.now fault) }
 {
     match side_in(bytes) {
         Side::Prover => match decode_prover(alloc, bytes) {

@@ -5,7 +5,7 @@ ghost use Rattle.zk_model.specs.Files.{AreParams};
 ghost use Rattle.zk_port.specs.Changes.{change};
 ghost use Rattle.file_commands.specs.Effects.{IsName, OnlyLoads};
 ghost use Rattle.file_commands.specs.Stops.{CircuitStop, HasCircuit};
-ghost use Rattle.status_command.specs.StatusRuns.{IsCircuitName, LacksCircuit, TakesUnits, session_units, sessions_in};
+ghost use Rattle.status_command.specs.StatusRuns.{IsReportedName, LacksCircuit, TakesUnits, session_units, sessions_in};
 
 use bristol_reader::Circuit;
 use file_commands::{Refusal, load_circuit};
@@ -65,7 +65,7 @@ pub fn load_session<F: Shelf>(
         (option_map (λ p. p.now) circuit.entry) params.now (option_map (λ s. s.units) session)) }
     ensures stop { IfErr result (LacksCircuit (option_map (λ p. p.now) circuit.entry)
         (change (F.state shelf.old) (F.state shelf.new))) }
-    ensures kept { OnlyLoads (IsCircuitName (option_map (λ p. p.now) circuit.entry))
+    ensures kept { OnlyLoads (IsReportedName (option_map (λ p. p.now) circuit.entry))
         (change (F.state shelf.old) (F.state shelf.new)) }
 {
     match circuit {

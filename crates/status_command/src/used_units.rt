@@ -1,6 +1,6 @@
 // How many units of a dealt file are used.
 ghost use Rattle.std.specs.Prelude.{◌≡◌, ◌-◌, ◌≤◌, ℕ, List, Some, IfOk, IfErr, sum_by};
-ghost use Rattle.zk_model.specs.ClaimedRanges.{RiseFrom};
+ghost use Rattle.claim_store.specs.ClaimedRanges.{RiseFrom};
 ghost use Rattle.claim_store.specs.Claims.{AreClaims};
 ghost use Rattle.lease_store.specs.Ceilings.{SaysCeiling};
 ghost use Rattle.file_commands.specs.Journals.{IsCeilingsFault, IsClaimsFault, IsJournalDisk, JournalStop};

@@ -7,5 +7,6 @@ mod lease_tests;
 mod machine_tests;
 mod noted;
 mod pool_tests;
+mod system_tests;
 mod twin_disks;
 mod word_tests;

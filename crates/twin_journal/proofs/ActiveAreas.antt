@@ -3,8 +3,8 @@ use Rattle.std.proofs.Common.{◌≡◌, ◌<◌, ◌≤◌, ◌+◌, ◌*◌, �
 use Rattle.std.specs.Int.{w64, from_le_bytes}
 use Rattle.zk_port.specs.Disks.{DiskState, LeavesOnly}
 use Rattle.zk_port.specs.Images.{IsOutside, IsTorn, StepsBy}
-use Rattle.zk_model.specs.Journals.{IsOldOrNew, IsTidy, Recovers, first_bodies}
-use Rattle.zk_model.specs.Twins.{GoesBefore, IsActive, IsAreaOf, SaysOldOrNew, area_at, generation_at, head_at, twin_length}
+use Rattle.lease_journal.specs.Journals.{IsOldOrNew, IsTidy, Recovers, first_bodies}
+use Rattle.lease_journal.specs.Twins.{GoesBefore, IsActive, IsAreaOf, SaysOldOrNew, area_at, generation_at, head_at, twin_length}
 use Rattle.lease_journal.specs.Causes.{KeptAt}
 use Rattle.lease_journal.specs.Keeps.{ChangesAt}
 use Rattle.lease_journal.specs.Steps.{IsReady, slot_written}

@@ -6,10 +6,10 @@ use Rattle.std.proofs.lemmas.Bool.{cases_lt}
 use Rattle.std.proofs.lemmas.List.{ext_get_or, get_or-take, get_or-drop, length-take, length-drop, drop_all, drop_more}
 use Rattle.zk_port.specs.Images.{IsTorn, written_at}
 use Rattle.zk_port.proofs.Torn.{torn_by_write}
-use Rattle.zk_model.specs.Journals.{IsOpen, body_at, body_before, number_at}
+use Rattle.lease_journal.specs.Journals.{IsOpen, body_at, body_before, number_at}
 use Rattle.lease_journal.proofs.Torn.{written_inside, written_size}
 use Rattle.lease_journal.proofs.Putting.{body_kept}
-use Rattle.twin_journal.specs.Filling.{AreSlotsOf, IsClosedSlot, IsFilled, IsOpenSlot, IsSlotFor, last_after, slot_bytes}
+use Rattle.twin_journal.specs.Filling.{AreBodySlots, IsClosedSlot, IsFilled, IsOpenSlot, IsSlotFor, last_after, slot_bytes}
 
 -- a part of what was written
 pub part_written : (at off n : ℕ) (bytes old : List ℕ) → 0 < n → off + n ≤ length bytes → take n (drop (at + off) (written_at at bytes old)) ≡ take n (drop off bytes)
@@ -61,7 +61,7 @@ module _ (at slot : ℕ) (bodies : List (ℕ × ℕ)) (bytes written : List ℕ)
   last_slot : (other : ℕ) → other < slot + 1 → slot ≤ other → other ≡ slot
   last_slot other below from = omega (arith, below, from)
 
-  exact_now : AreSlotsOf at (slot + 1) bodies new
+  exact_now : AreBodySlots at (slot + 1) bodies new
   exact_now other below i inside = ⊎_elim
       (λ ahead. torn.kept (at + 32 * other + i) (omega (arith, ahead, inside, so_far.inside)) (inl (omega (arith, ahead, inside)))
       ∙ so_far.exact other ahead i inside)

@@ -5,12 +5,12 @@ use Rattle.std.specs.Int.{w64, to_le_bytes, from_le_bytes}
 use Rattle.std.proofs.lemmas.Nat.{from_le_bytes-to_le_bytes_8}
 use Rattle.zk_port.specs.Disks.{DiskState}
 use Rattle.zk_port.specs.Images.{IsTorn, StepsBy, written_at}
-use Rattle.zk_model.specs.Journals.{number_at}
+use Rattle.lease_journal.specs.Journals.{number_at}
 use Rattle.lease_journal.specs.Keeps.{ChangesAt, Keeps}
 use Rattle.lease_journal.proofs.Keeping.{changes_then, changes_wider, keeps}
 use Rattle.lease_journal.proofs.Moments.{then_leaves}
 use Rattle.lease_journal.proofs.Torn.{same_part, written_size}
-use Rattle.twin_journal.specs.Compactions.{HasByte, IsWritten}
+use Rattle.twin_journal.specs.Compactions.{HasByte, IsAreaWritten}
 use Rattle.twin_journal.specs.Filling.{IsFilled}
 use Rattle.twin_journal.proofs.AreaFills.{number_written}
 
@@ -81,13 +81,13 @@ module _ (head slots generation : ℕ) (small : generation < 2 ^ 64) (eight : Li
 
   pub area_written : (old middle new : Option (List ℕ)) → old ≡ Some bytes → middle ≡ option_map (written_at head eight) old
       → ((b : List ℕ) → middle ≡ Some b → head + 32 ≤ length b → IfSome new (IsFilled (head + 32) slots bodies))
-      → StepsBy (IsTorn (head + 32) (32 * slots)) middle new → IfSome new (IsWritten head slots generation bodies)
+      → StepsBy (IsTorn (head + 32) (32 * slots)) middle new → IfSome new (IsAreaWritten head slots generation bodies)
   area_written old middle new was first filled steps = each new (filled begun there (omega (arith, fits, begun_long))) (subst (λ o. StepsBy (IsTorn (head + 32) (32 * slots)) o new) there steps)
     where
       there : middle ≡ Some begun
       there = first ∙ ap (option_map (written_at head eight)) was
 
       each : (new : Option (List ℕ)) → IfSome new (IsFilled (head + 32) slots bodies) → StepsBy (IsTorn (head + 32) (32 * slots)) (Some begun) new
-          → IfSome new (IsWritten head slots generation bodies)
+          → IfSome new (IsAreaWritten head slots generation bodies)
       each None filled steps = tt
       each (Some image) filled torn = record { generation_is = generation_later image torn; filled = filled }

@@ -2,8 +2,8 @@
 use Rattle.std.proofs.Common.{◌≡◌, ◌≤◌, ◌+◌, ◌^◌, ℕ, List, Bool, true, refl, get_or, Option, Some, None, ap, sym, ◌∙◌, subst, arith}
 use Rattle.zk_model.specs.declared.JournalKind.{JournalKind}
 use Rattle.zk_model.specs.declared.JournalKind.TheVariants.{Claims, Ceilings}
-use Rattle.zk_model.specs.Journals.{slots_at}
-use Rattle.zk_model.specs.Twins.{HasTwinHeader, IsFirstTwinWrong, are_twin_slots, is_twin_wrong_at, twin_ceiling_slots, twin_header, twin_slots_at}
+use Rattle.lease_journal.specs.Journals.{slots_at}
+use Rattle.lease_journal.specs.Twins.{HasTwinHeader, IsFirstTwinWrong, are_twin_slots, is_twin_wrong_at, twin_ceiling_slots, twin_header, twin_slots_at}
 use Rattle.lease_journal.specs.Headers.{IsFirstOf, IsRead, is_wrong_beside, may_be_slots}
 use Rattle.lease_journal.proofs.Headers.{first_same, not_false, slots_read, wrong_alike}
 use Rattle.lease_journal.proofs.Headers as headers

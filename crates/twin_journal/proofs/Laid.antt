@@ -7,11 +7,11 @@ use Rattle.std.specs.Option.{option_map}
 use Rattle.zk_port.specs.Images.{IsTorn, StepsBy, written_at}
 use Rattle.zk_port.proofs.Torn.{torn_by_write}
 use Rattle.zk_model.specs.declared.JournalKind.{JournalKind}
-use Rattle.zk_model.specs.Twins.{IsHeadOpen, area_at, are_twin_slots, first_head, generation_at, head_at, is_twin_wrong_at, twin_code, twin_header, twin_length, twin_slots_at}
+use Rattle.lease_journal.specs.Twins.{IsHeadOpen, area_at, are_twin_slots, first_head, generation_at, head_at, is_twin_wrong_at, twin_code, twin_header, twin_length, twin_slots_at}
 use Rattle.lease_journal.specs.Causes.{KeptAt}
 use Rattle.lease_journal.proofs.Newly.{not_wrong}
 use Rattle.lease_journal.proofs.Torn.{behind_torn, written_inside, written_size}
-use Rattle.twin_journal.specs.Filling.{AreSlotsOf, IsFilled}
+use Rattle.twin_journal.specs.Filling.{AreBodySlots, IsFilled}
 use Rattle.twin_journal.specs.Laying.{HasAllBytes, HasFirstBytes, IsLaid}
 use Rattle.twin_journal.proofs.HeaderReads.{fits_few}
 use Rattle.twin_journal.proofs.SameAreas.{filled_recovers, filled_tidy, recovers_still, tidy_same}
@@ -143,11 +143,11 @@ module _ (kind : JournalKind) (id : List ℕ) (total begin slots : ℕ) (bodies 
         let place : begin + 96 ≡ area_at begin slots false = omega arith in
         record {
           first = first_then;
-          slots_are = subst (λ n. AreSlotsOf n slots bodies last) place (λ slot below i inside.
+          slots_are = subst (λ n. AreBodySlots n slots bodies last) place (λ slot below i inside.
               let there : begin + 96 + 32 * slot + i ≡ begin + 96 + (32 * slot + i) = omega arith in
               ap (λ p. get_or last p 0) there ∙ slots_stay (32 * slot + i) (omega (arith, below, inside)) ∙ sym (ap (λ p. get_or middle p 0) there)
               ∙ filled.exact slot below i inside);
-          zeros = subst (λ n. AreSlotsOf n (slots + 1) [] last) second_is empty.exact;
+          zeros = subst (λ n. AreBodySlots n (slots + 1) [] last) second_is empty.exact;
         }
 
     pub full_then : begin + twin_length slots ≤ length last

@@ -2,8 +2,8 @@
 use Rattle.std.proofs.Common.{◌≡◌, ◌<◌, ◌+◌, ◌*◌, ◌&&◌, ◌==◌, nat_le, if◌then◌else◌, ℕ, List, true, false, length, get_or, ap, arith}
 use Rattle.std.proofs.lemmas.Bool.Decides.{nat_tests}
 use Rattle.zk_model.specs.declared.JournalKind.{JournalKind}
-use Rattle.zk_model.specs.Journals.{journal_code, slots_at}
-use Rattle.zk_model.specs.Twins.{is_migrated, twin_begin}
+use Rattle.lease_journal.specs.Journals.{journal_code, slots_at}
+use Rattle.lease_journal.specs.Twins.{is_migrated, twin_begin}
 
 pub begins_behind : (kind : JournalKind) (bytes : List ℕ) → is_migrated kind bytes ≡ true → twin_begin kind bytes ≡ 64 + 32 * slots_at bytes
 begins_behind kind bytes moved = ap (λ b. if b then 64 + 32 * slots_at bytes else 0) moved

@@ -2,8 +2,8 @@
 use Rattle.std.proofs.Common.{◌≡◌, ◌<◌, ◌≤◌, true, false, ◌+◌, ◌-◌, ◌*◌, ◌++◌, ℕ, List, [], length, get_or, replicate, refl, ap, ◌∙◌, arith}
 use Rattle.std.proofs.lemmas.List.{get_or_append_left, get_or-append_right, length-append, length-replicate}
 use Rattle.zk_model.specs.declared.JournalKind.{JournalKind}
-use Rattle.zk_model.specs.Journals.{IsOpen}
-use Rattle.zk_model.specs.Twins.{area_at, are_twin_slots, blank_twin_bytes, first_head, head_at, twin_header}
+use Rattle.lease_journal.specs.Journals.{IsOpen}
+use Rattle.lease_journal.specs.Twins.{area_at, are_twin_slots, blank_twin_bytes, first_head, head_at, twin_header}
 use Rattle.lease_journal.specs.Causes.{KeptAt}
 use Rattle.lease_journal.proofs.Newly.{same_at}
 use Rattle.twin_journal.specs.Laws.{BlankTwinIsNew}

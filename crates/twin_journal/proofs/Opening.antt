@@ -4,15 +4,15 @@ use Rattle.std.proofs.lemmas.List.Sums.{sum_by-append}
 use Rattle.zk_port.specs.Disks.{DiskState}
 use Rattle.zk_model.specs.declared.JournalKind.{JournalKind}
 use Rattle.zk_model.specs.declared.JournalKind.TheVariants.{Ceilings}
-use Rattle.zk_model.specs.Journals.{AreUsed, IsFirstBad, body_at, body_before, first_bodies, last_body}
-use Rattle.zk_model.specs.Twins.{IsAreaOf, IsTwinTidy, TwinRecovers, TwinStands, area_at, claimed_units, head_at, twin_begin, twin_length, twin_slots_at}
+use Rattle.lease_journal.specs.Journals.{AreUsed, IsFirstBad, body_at, body_before, first_bodies, last_body}
+use Rattle.lease_journal.specs.Twins.{IsAreaOf, IsTwinTidy, TwinRecovers, TwinStands, area_at, claimed_units, head_at, twin_begin, twin_length, twin_slots_at}
 use Rattle.lease_journal.specs.Causes.{IsScanned}
 use Rattle.lease_journal.specs.declared.fault.StartFault.TheVariants as start
 use Rattle.lease_journal.proofs.Putting.{first_more, length-first}
 use Rattle.lease_journal.proofs.Scanning.{used_recovers}
 use Rattle.lease_journal.proofs.Sound.{before_slot}
 use Rattle.twin_journal.specs.States.{IsKept, TwinState}
-use Rattle.twin_journal.specs.Starts.{HasBadBody, HasBadGeneration, IsFound, IsTwinOpened, SaysTwinSlots, TwinStartCause}
+use Rattle.twin_journal.specs.Starts.{HasBadBody, HasBadGeneration, IsActiveFound, IsTwinOpened, SaysTwinSlots, TwinStartCause}
 
 -- the units of one slot more
 pub units_more : (at slot : ℕ) (bytes : List ℕ) (body : ℕ × ℕ) (before after : ℕ) → body ≡ body_at at bytes slot
@@ -45,7 +45,7 @@ last_ceiling at used bytes ceiling is small =
     omega (arith, all, small)
 
 module _ (kind : JournalKind) (id : List ℕ) (total begin slots : ℕ) (bytes : List ℕ) (second : Bool) (generation : ℕ) (other_open : Bool)
-    (stands : TwinStands kind id total begin slots bytes) (found : IsFound begin slots bytes second generation other_open)
+    (stands : TwinStands kind id total begin slots bytes) (found : IsActiveFound begin slots bytes second generation other_open)
     (at : ℕ) (place : at ≡ area_at begin slots second) (used : ℕ) (are : AreUsed at slots used bytes) where
   are_there : AreUsed (area_at begin slots second) slots used bytes
   are_there = subst (λ n. AreUsed n slots used bytes) place are

@@ -1,7 +1,7 @@
 -- Sizes and places of some journals, by computation.
 use Rattle.std.proofs.Common.{◌≡◌, length, replicate, get_or, true, false, refl}
 use Rattle.zk_model.specs.declared.JournalKind.TheVariants.{Claims, Ceilings}
-use Rattle.zk_model.specs.Twins.{area_at, are_twin_slots, blank_twin_bytes, head_at, twin_ceiling_slots, twin_length}
+use Rattle.lease_journal.specs.Twins.{area_at, are_twin_slots, blank_twin_bytes, head_at, twin_ceiling_slots, twin_length}
 
 -- a prover's journal of one slot
 one_slot : length (blank_twin_bytes Claims (replicate 32 7) 1 1) ≡ 192

@@ -4,8 +4,8 @@ use Rattle.std.specs.Int.{w64, from_le_bytes}
 use Rattle.std.proofs.lemmas.Bool.{cases_lt}
 use Rattle.std.proofs.lemmas.List.{ext_get_or}
 use Rattle.zk_port.specs.Images.{HasDiskRoom, IsOutside, IsTorn}
-use Rattle.zk_model.specs.Journals.{IsTidy, Recovers, body_at, first_bodies}
-use Rattle.zk_model.specs.Twins.{GoesBefore, IsAreaOf, IsHeadOpen, area_at, generation_at, head_at, twin_length}
+use Rattle.lease_journal.specs.Journals.{IsTidy, Recovers, body_at, first_bodies}
+use Rattle.lease_journal.specs.Twins.{GoesBefore, IsAreaOf, IsHeadOpen, area_at, generation_at, head_at, twin_length}
 use Rattle.lease_journal.proofs.Putting.{body_kept, first-at, first_same, length-first, no_body}
 use Rattle.lease_journal.proofs.Torn.{same_part}
 use Rattle.twin_journal.specs.Filling.{IsFilled}

@@ -3,8 +3,8 @@ use Rattle.std.proofs.Common.{◌≡◌, ◌⊎◌, ◌+◌, ◌*◌, ◌≤◌,
 use Rattle.std.proofs.lemmas.Bool.Decides.{nat_tests}
 use Rattle.zk_model.specs.declared.JournalKind.{JournalKind}
 use Rattle.zk_model.specs.declared.JournalKind.TheVariants.{Claims, Ceilings}
-use Rattle.zk_model.specs.Journals.{journal_code, slots_at}
-use Rattle.zk_model.specs.Twins.{HasMovedHeader, HasTwinHeader, HoldsTwin, IsTwinTidy, is_migrated, twin_begin, twin_code, twin_slots_at}
+use Rattle.lease_journal.specs.Journals.{journal_code, slots_at}
+use Rattle.lease_journal.specs.Twins.{HasMovedHeader, HasTwinHeader, HoldsTwin, IsTwinTidy, is_migrated, twin_begin, twin_code, twin_slots_at}
 use Rattle.twin_journal.specs.Laws.{SaidIsTidy}
 use Rattle.twin_journal.specs.Starts.{AreTidy}
 use Rattle.twin_journal.proofs.TwinLaws.{says_recovers}

@@ -6,14 +6,14 @@ use Rattle.std.proofs.lemmas.Bool.{cases_eq}
 use Rattle.zk_port.specs.Disks.{DiskState, LeavesOnly}
 use Rattle.zk_port.specs.Images.{IsTorn, Only, StepsBy, written_at}
 use Rattle.zk_port.proofs.Torn.{torn_by_write}
-use Rattle.zk_model.specs.Journals.{IsTidy, Recovers, number_at}
-use Rattle.zk_model.specs.Twins.{GoesBefore, IsAreaOf, IsHeadOpen, SaysOldOrNew, generation_at, head_at, twin_length}
+use Rattle.lease_journal.specs.Journals.{IsTidy, Recovers, number_at}
+use Rattle.lease_journal.specs.Twins.{GoesBefore, IsAreaOf, IsHeadOpen, SaysOldOrNew, generation_at, head_at, twin_length}
 use Rattle.lease_journal.specs.Keeps.{ChangesAt, Keeps}
 use Rattle.lease_journal.proofs.Moments.{leaves_also, leaves_both}
 use Rattle.lease_journal.proofs.Torn.{same_part, written_inside}
 use Rattle.twin_journal.specs.States.{IsKept, TwinState}
-use Rattle.twin_journal.specs.Compactions.{Closes, HasByte, IsTurned, IsWritten, MayTurn}
-use Rattle.twin_journal.specs.Filling.{AreSlotsOf}
+use Rattle.twin_journal.specs.Compactions.{Closes, HasByte, IsTurned, IsAreaWritten, MayTurn}
+use Rattle.twin_journal.specs.Filling.{AreBodySlots}
 use Rattle.twin_journal.proofs.SameAreas.{area_ends, area_stays, beside_same, filled_recovers, filled_tidy, own_gate, own_generation, recovers_still, tidy_same}
 
 goes_greater : (k : Bool) (g h : ℕ) → h < g → GoesBefore k g h
@@ -69,7 +69,7 @@ module _ (begin slots active generation : ℕ) (second : Bool) (bodies next : Li
         (λ is_open. absurd (shut (sym gate.is ∙ gate_at image ∙ is_open)))
 
     -- while the gate is opened, once the other area is written
-    module _ (written : IsWritten head slots generation next c) (few : length next ≤ slots) (image : List ℕ) (torn : IsTorn (head + 31) 1 c image) where
+    module _ (written : IsAreaWritten head slots generation next c) (few : length next ≤ slots) (image : List ℕ) (torn : IsTorn (head + 31) 1 c image) where
       own : (i : ℕ) → i < 32 * (slots + 1) → get_or image (head_at begin slots second + i) 0 ≡ get_or c (head_at begin slots second + i) 0
       own = own_bytes (head + 31) 1 image (omega arith) (omega arith) torn
 
@@ -110,7 +110,7 @@ module _ (begin slots active generation : ℕ) (second : Bool) (bodies next : Li
       turned is_open = record {
         area = opened_area is_open;
         other = own_gate begin slots active second bodies c image area full torn.least own ∙ area.active.opened;
-        exact = subst (λ h. AreSlotsOf (h + 32) slots next image) head_is (λ slot below i inside.
+        exact = subst (λ h. AreBodySlots (h + 32) slots next image) head_is (λ slot below i inside.
             let there : head + 32 + 32 * slot + i ≡ head + 32 + (32 * slot + i) = omega arith in
             ap (λ p. get_or image p 0) there ∙ new_slots (32 * slot + i) (omega (arith, below, inside)) ∙ sym (ap (λ p. get_or c p 0) there)
             ∙ written.filled.exact slot below i inside);
@@ -134,7 +134,7 @@ pub record Closed (disk : DiskState) (begin slots active head : ℕ) (second : B
 -- or that area is written
 pub record Written (disk : DiskState) (begin slots active head generation : ℕ) (second : Bool) (bodies next : List (ℕ × ℕ)) : Type 0 where
   pub stands : Standing disk begin slots active second bodies
-  pub written : IsWritten head slots generation next stands.bytes
+  pub written : IsAreaWritten head slots generation next stands.bytes
 
 -- what a step makes of a content that is told
 record Stepped (step : List ℕ → List ℕ → Type 0) (old : List ℕ) (new : Option (List ℕ)) : Type 0 where
@@ -246,7 +246,7 @@ module _ (begin slots active generation : ℕ) (second : Bool) (bodies next : Li
     second_read = tells AllSay later.content second_told.now second_told.is (old_says second_told.now second_told.area)
 
     pub written_then : Only later.content later.images
-        → ((bytes : List ℕ) → middle.content ≡ Some bytes → head + 32 ≤ length bytes → IfSome later.content (IsWritten head slots generation next))
+        → ((bytes : List ℕ) → middle.content ≡ Some bytes → head + 32 ≤ length bytes → IfSome later.content (IsAreaWritten head slots generation next))
         → Written later begin slots active head generation second bodies next
     written_then durable written = record {
       stands = record {
@@ -256,7 +256,7 @@ module _ (begin slots active generation : ℕ) (second : Bool) (bodies next : Li
         full = omega (arith, closed.stands.full, second_told.longer);
         area = second_told.area;
       };
-      written = told_has (IsWritten head slots generation next) later.content second_told.now second_told.is
+      written = told_has (IsAreaWritten head slots generation next) later.content second_told.now second_told.is
           (written closed.stands.bytes closed.stands.content (omega (arith, may.head_is, area_ends begin slots (not second) (length closed.stands.bytes) closed.stands.full)));
     }
 

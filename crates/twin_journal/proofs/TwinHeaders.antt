@@ -6,8 +6,8 @@ use Rattle.zk_port.specs.Disks.{DiskState}
 use Rattle.zk_port.specs.Images.{IsTorn}
 use Rattle.zk_model.specs.declared.JournalKind.{JournalKind}
 use Rattle.zk_model.specs.declared.JournalKind.TheVariants.{Claims, Ceilings}
-use Rattle.zk_model.specs.Journals.{journal_code, slots_at}
-use Rattle.zk_model.specs.Twins.{HoldsTwin, TwinStands, are_twin_slots, area_at, is_migrated, is_twin_wrong_at, twin_begin, twin_code, twin_header, twin_slots_at}
+use Rattle.lease_journal.specs.Journals.{journal_code, slots_at}
+use Rattle.lease_journal.specs.Twins.{HoldsTwin, TwinStands, are_twin_slots, area_at, is_migrated, is_twin_wrong_at, twin_begin, twin_code, twin_header, twin_slots_at}
 use Rattle.lease_journal.specs.Keeps.{ChangesAt, Keeps}
 use Rattle.lease_journal.proofs.Keeping.{SameBeside, keeps, moved_kept, moved_slots, torn_beside}
 use Rattle.lease_journal.proofs.Torn.{same_part}

@@ -5,8 +5,8 @@ use Rattle.std.proofs.lemmas.List.{length-append}
 use Rattle.std.proofs.lemmas.List.Sums.{sum_by-append}
 use Rattle.zk_model.specs.declared.JournalKind.{JournalKind}
 use Rattle.zk_model.specs.declared.JournalKind.TheVariants.{Claims, Ceilings}
-use Rattle.zk_model.specs.Journals.{AreSound, AreUsed, IsTidy, Recovers, body_before, first_bodies, keeps_rule}
-use Rattle.zk_model.specs.Twins.{HoldsTwin, IsActive, MayHaveGeneration, SaysTwin, TwinStands, area_at, claimed_units, generation_at}
+use Rattle.lease_journal.specs.Journals.{AreSound, AreUsed, IsTidy, Recovers, body_before, first_bodies, keeps_rule}
+use Rattle.lease_journal.specs.Twins.{HoldsTwin, IsActive, MayHaveGeneration, SaysTwin, TwinStands, area_at, claimed_units, generation_at}
 use Rattle.lease_journal.specs.declared.fault.StartFault.{StartFault}
 use Rattle.lease_journal.specs.declared.fault.StartFault.TheVariants.{Device, Short, BadHeader, BadBody}
 use Rattle.lease_journal.proofs.Scanning.{used_recovers}

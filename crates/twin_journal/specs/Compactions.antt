@@ -2,9 +2,9 @@
 use Rattle.std.specs.Prelude.{◌≡◌, ℕ, ◌+◌, ◌<◌, ◌≤◌, List, length, get_or, Some, Bool, true, false, not}
 use Rattle.zk_port.specs.Disks.{DiskState}
 use Rattle.zk_port.specs.Images.{IsTorn}
-use Rattle.zk_model.specs.Journals.{number_at}
-use Rattle.zk_model.specs.Twins.{IsAreaOf, IsHeadOpen, area_at, head_at, twin_length}
-use Rattle.twin_journal.specs.Filling.{AreSlotsOf, IsFilled}
+use Rattle.lease_journal.specs.Journals.{number_at}
+use Rattle.lease_journal.specs.Twins.{IsAreaOf, IsHeadOpen, area_at, head_at, twin_length}
+use Rattle.twin_journal.specs.Filling.{AreBodySlots, IsFilled}
 
 -- a gate is written, which is open now only where it was
 pub record Closes (gate : ℕ) (old new : List ℕ) : Type 0 where
@@ -17,7 +17,7 @@ pub record HasByte (place byte : ℕ) (bytes : List ℕ) : Type 0 where
   pub is : get_or bytes place 0 ≡ byte
 
 -- the area whose head stands at a place has this generation and these bodies
-pub record IsWritten (head slots generation : ℕ) (bodies : List (ℕ × ℕ)) (bytes : List ℕ) : Type 0 where
+pub record IsAreaWritten (head slots generation : ℕ) (bodies : List (ℕ × ℕ)) (bytes : List ℕ) : Type 0 where
   pub generation_is : number_at bytes head ≡ generation
   pub filled : IsFilled (head + 32) slots bodies bytes
 
@@ -37,4 +37,4 @@ pub record MayTurn (disk : DiskState) (begin slots : ℕ) (second : Bool) (head 
 pub record IsTurned (begin slots : ℕ) (second : Bool) (generation : ℕ) (bodies : List (ℕ × ℕ)) (bytes : List ℕ) : Type 0 where
   pub area : IsAreaOf begin slots (not second) generation bodies bytes
   pub other : IsHeadOpen begin slots bytes second
-  pub exact : AreSlotsOf (area_at begin slots (not second)) slots bodies bytes
+  pub exact : AreBodySlots (area_at begin slots (not second)) slots bodies bytes

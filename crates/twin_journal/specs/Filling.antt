@@ -1,7 +1,7 @@
 -- How an area is filled.
 use Rattle.std.specs.Prelude.{◌≡◌, ℕ, ◌+◌, ◌*◌, ◌<◌, ◌≤◌, List, [], ◌∷◌, ◌++◌, length, drop, get_or, replicate}
 use Rattle.lease_journal.specs.Steps.{body_bytes}
-use Rattle.zk_model.specs.Journals.{IsOpen, body_at, number_at}
+use Rattle.lease_journal.specs.Journals.{IsOpen, body_at, number_at}
 
 -- these 32 bytes are an open slot with this body
 pub record IsOpenSlot (body : ℕ × ℕ) (slot : List ℕ) : Type 0 where
@@ -30,8 +30,8 @@ slot_bytes [] = replicate 32 0
 slot_bytes (body ∷ bodies) = open_slot body
 
 -- so many slots from a place on are those of these bodies to the byte, and zeros behind the last of them
-abbrev pub AreSlotsOf : ℕ → ℕ → List (ℕ × ℕ) → List ℕ → Type 0
-AreSlotsOf at count bodies bytes = (slot : ℕ) → slot < count → (i : ℕ) → i < 32
+abbrev pub AreBodySlots : ℕ → ℕ → List (ℕ × ℕ) → List ℕ → Type 0
+AreBodySlots at count bodies bytes = (slot : ℕ) → slot < count → (i : ℕ) → i < 32
     → get_or bytes (at + 32 * slot + i) 0 ≡ get_or (slot_bytes (drop slot bodies)) i 0
 
 -- the last body after the first of these, if there is one
@@ -45,4 +45,4 @@ pub record IsFilled (at count : ℕ) (bodies : List (ℕ × ℕ)) (bytes : List 
   pub opened : (slot : ℕ) → slot < count → slot < length bodies → IsOpen at bytes slot
   pub bodies_are : (slot : ℕ) → slot < count → slot < length bodies → body_at at bytes slot ≡ get_or bodies slot (0, 0)
   pub closed : (slot : ℕ) → slot < count → length bodies ≤ slot → ¬ (IsOpen at bytes slot)
-  pub exact : AreSlotsOf at count bodies bytes
+  pub exact : AreBodySlots at count bodies bytes

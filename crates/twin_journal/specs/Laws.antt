@@ -1,8 +1,8 @@
 -- What holds of every journal of two areas.
 use Rattle.std.specs.Prelude.{◌≡◌, ℕ, ◌+◌, ◌≤◌, List, [], ◌∷◌, ◌++◌, length, true}
 use Rattle.zk_model.specs.declared.JournalKind.{JournalKind}
-use Rattle.zk_model.specs.Journals.{AreSound}
-use Rattle.zk_model.specs.Twins.{HoldsTwin, IsTwinTidy, MayHaveGeneration, SaysTwin, TwinRecovers, are_twin_slots, blank_twin_bytes, claimed_units}
+use Rattle.lease_journal.specs.Journals.{AreSound}
+use Rattle.lease_journal.specs.Twins.{HoldsTwin, IsTwinTidy, MayHaveGeneration, SaysTwin, TwinRecovers, are_twin_slots, blank_twin_bytes, claimed_units}
 use Rattle.lease_journal.specs.declared.fault.StartFault.{StartFault}
 use Rattle.lease_journal.specs.declared.fault.StartFault.TheVariants.{Device}
 use Rattle.twin_journal.specs.Starts.{AreTidy, FileCause}

@@ -1,8 +1,8 @@
 -- A new journal, as it is written into a file.
 use Rattle.std.specs.Prelude.{◌≡◌, ℕ, ◌+◌, ◌<◌, ◌≤◌, List, [], length, get_or, false, true}
 use Rattle.zk_model.specs.declared.JournalKind.{JournalKind}
-use Rattle.zk_model.specs.Twins.{IsAreaOf, IsHeadOpen, TwinStands, area_at, first_head, head_at, twin_header}
-use Rattle.twin_journal.specs.Filling.{AreSlotsOf}
+use Rattle.lease_journal.specs.Twins.{IsAreaOf, IsHeadOpen, TwinStands, area_at, first_head, head_at, twin_header}
+use Rattle.twin_journal.specs.Filling.{AreBodySlots}
 
 -- the header and the open head of the first area stand from a place on
 pub record HasFirstBytes (kind : JournalKind) (id : List ℕ) (total begin slots : ℕ) (bytes : List ℕ) : Type 0 where
@@ -14,8 +14,8 @@ pub record HasFirstBytes (kind : JournalKind) (id : List ℕ) (total begin slots
 -- have these bodies; and zeros from there to the end.
 pub record HasAllBytes (kind : JournalKind) (id : List ℕ) (total begin slots : ℕ) (bodies : List (ℕ × ℕ)) (bytes : List ℕ) : Type 0 where
   pub first : HasFirstBytes kind id total begin slots bytes
-  pub slots_are : AreSlotsOf (area_at begin slots false) slots bodies bytes
-  pub zeros : AreSlotsOf (head_at begin slots true) (slots + 1) [] bytes
+  pub slots_are : AreBodySlots (area_at begin slots false) slots bodies bytes
+  pub zeros : AreBodySlots (head_at begin slots true) (slots + 1) [] bytes
 
 -- a journal stands from a place on, and says these bodies in generation 1; the head of its second area is not open
 pub record IsLaid (kind : JournalKind) (id : List ℕ) (total begin slots : ℕ) (bodies : List (ℕ × ℕ)) (bytes : List ℕ) : Type 0 where

@@ -2,8 +2,8 @@
 use Rattle.std.specs.Prelude.{◌≡◌, ◌⊎◌, ℕ, ◌+◌, ◌-◌, ◌^◌, ◌<◌, ◌≤◌, List, length, get_or, Option, Some, None, Bool, true, false, not, nat_lt}
 use Rattle.zk_model.specs.declared.JournalKind.{JournalKind}
 use Rattle.zk_model.specs.declared.limits.TheConstants.{MAX_SLOTS}
-use Rattle.zk_model.specs.Journals.{AreUsed, IsFirstBad, first_bodies, last_body, number_at}
-use Rattle.zk_model.specs.Twins.{HasMovedHeader, HasTwinHeader, HoldsTwin, IsActive, IsFirstMovedWrong, IsFirstTwinWrong, IsHeadOpen, IsTwinTidy, MayHaveGeneration, TwinStands, area_at, generation_at, head_at, is_migrated, twin_begin, twin_length, twin_slots_at}
+use Rattle.lease_journal.specs.Journals.{AreUsed, IsFirstBad, first_bodies, last_body, number_at}
+use Rattle.lease_journal.specs.Twins.{HasMovedHeader, HasTwinHeader, HoldsTwin, IsActive, IsFirstMovedWrong, IsFirstTwinWrong, IsHeadOpen, IsTwinTidy, MayHaveGeneration, TwinStands, area_at, generation_at, head_at, is_migrated, twin_begin, twin_length, twin_slots_at}
 use Rattle.lease_journal.specs.declared.fault.StartFault.{StartFault}
 use Rattle.lease_journal.specs.declared.fault.StartFault.TheVariants as start
 
@@ -21,7 +21,7 @@ active_of true first false second = Some false
 active_of true first true second = Some (nat_lt first second)
 
 -- the active area, its generation, and whether the other head is open
-pub record IsFound (begin slots : ℕ) (bytes : List ℕ) (second : Bool) (generation : ℕ) (other_open : Bool) : Type 0 where
+pub record IsActiveFound (begin slots : ℕ) (bytes : List ℕ) (second : Bool) (generation : ℕ) (other_open : Bool) : Type 0 where
   pub active : IsActive begin slots bytes second
   pub generation_is : generation_at begin slots bytes second ≡ generation
   pub opened : other_open ≡ true → IsHeadOpen begin slots bytes (not second)
@@ -86,7 +86,7 @@ TwinStartCause kind id total begin bytes (start.BadBody bad) =
 -- their rule, and a generation that there may be for them.
 pub record IsTwinOpened (kind : JournalKind) (id : List ℕ) (total begin slots used : ℕ) (last : ℕ × ℕ) (second : Bool) (generation : ℕ) (other_open : Bool) (bytes : List ℕ) : Type 0 where
   pub stands : TwinStands kind id total begin slots bytes
-  pub found : IsFound begin slots bytes second generation other_open
+  pub found : IsActiveFound begin slots bytes second generation other_open
   pub slots_used : AreUsed (area_at begin slots second) slots used bytes
   pub last_is : last ≡ last_body (area_at begin slots second) bytes used
   pub sound : IsFirstBad kind total (area_at begin slots second) bytes used None

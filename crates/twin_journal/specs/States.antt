@@ -2,7 +2,7 @@
 use Rattle.std.specs.Prelude.{◌≡◌, ℕ, ◌+◌, ◌^◌, ◌≤◌, List, length, Some, Bool, true, false, not, refl}
 use Rattle.std.specs.Coded.{Coded, code_by, coded×, coded_bool, coded_ℕ}
 use Rattle.zk_port.specs.Disks.{DiskState}
-use Rattle.zk_model.specs.Twins.{IsAreaOf, IsHeadOpen, twin_length}
+use Rattle.lease_journal.specs.Twins.{IsAreaOf, IsHeadOpen, twin_length}
 use Rattle.zk_model.specs.declared.limits.TheConstants.{MAX_SLOTS}
 
 -- An open journal: its disk, where it begins, how many slots an area has and are in use, the body in the last of these, or zeros,

@@ -1,7 +1,7 @@
 // Where in its file a journal of two areas begins.
 ghost use Rattle.std.specs.Prelude.{◌≡◌, ◌≤◌, ◌^◌, ℕ, List, Some, true, IfOk, IfErr};
 ghost use Rattle.zk_port.specs.Disks.{Stays};
-ghost use Rattle.zk_model.specs.Twins.{HasMovedHeader, is_migrated, twin_begin};
+ghost use Rattle.lease_journal.specs.Twins.{HasMovedHeader, is_migrated, twin_begin};
 ghost use Rattle.lease_journal.specs.Causes.{HasStartCause};
 ghost use Rattle.lease_journal.specs.declared.fault.StartFault.TheVariants as start;
 ghost use Rattle.twin_journal.specs.Starts.{PlaceCause};

@@ -3,11 +3,11 @@ ghost use Rattle.std.specs.Prelude.{◌≡◌, ◌<◌, ◌≤◌, ◌+◌, ◌*
 ghost use Rattle.zk_port.specs.Counts.{HasDiskCause};
 ghost use Rattle.zk_port.specs.Disks.{LeavesOnly};
 ghost use Rattle.zk_port.specs.Images.{HasDiskRoom, Only};
-ghost use Rattle.zk_model.specs.Journals.{body_before};
-ghost use Rattle.zk_model.specs.Twins.{SaysOldOrNew};
+ghost use Rattle.lease_journal.specs.Journals.{body_before};
+ghost use Rattle.lease_journal.specs.Twins.{SaysOldOrNew};
 ghost use Rattle.zk_model.specs.declared.limits.TheConstants.{MAX_SLOTS};
 ghost use Rattle.lease_journal.specs.Keeps.{ChangesAt, Keeps};
-ghost use Rattle.twin_journal.specs.Compactions.{Closes, HasByte, IsTurned, IsWritten, MayTurn};
+ghost use Rattle.twin_journal.specs.Compactions.{Closes, HasByte, IsTurned, IsAreaWritten, MayTurn};
 
 use crate::OPEN;
 use crate::bodies::Bodies;
@@ -58,7 +58,7 @@ fn write_area<B: Disk, F: Bodies>(disk: &mut B, to: Target, next: &mut F) -> Res
     requires few { length (F.rest next.old) ≤ to.slots }
     ensures written { OnOk result ((bytes : List ℕ) → (B.state disk.old).content ≡ Some bytes
         → to.head + 32 ≤ length bytes
-        → IfSome (B.state disk.new).content (IsWritten to.head to.slots to.generation (F.rest next.old))) }
+        → IfSome (B.state disk.new).content (IsAreaWritten to.head to.slots to.generation (F.rest next.old))) }
     ensures used { IfOk result (λ done. done.used ≡ length (F.rest next.old)) }
     ensures last { IfOk result (λ done.
         done.last ≡ body_before (F.rest next.old) (length (F.rest next.old))) }

@@ -2,7 +2,7 @@
 ghost use Rattle.std.specs.Prelude.{◌≡◌, ◌<◌, ◌≤◌, ◌+◌, ◌*◌, ◌^◌, ℕ, List, [], length, drop, min, Some, IfSome, IfOk, OnOk};
 ghost use Rattle.zk_port.specs.Counts.{HasDiskCause};
 ghost use Rattle.zk_port.specs.Images.{HasDiskRoom};
-ghost use Rattle.zk_model.specs.Journals.{body_before};
+ghost use Rattle.lease_journal.specs.Journals.{body_before};
 ghost use Rattle.zk_model.specs.declared.limits.TheConstants.{MAX_SLOTS};
 ghost use Rattle.lease_journal.specs.Keeps.{ChangesAt};
 ghost use Rattle.twin_journal.specs.Filling.{IsClosedSlot, IsFilled, IsOpenSlot, IsSlotFor, last_after, open_slot, slot_bytes};

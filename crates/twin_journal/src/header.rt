@@ -1,7 +1,7 @@
 // The header of a journal of two areas: its first 64 bytes.
 ghost use Rattle.std.specs.Prelude.{◌≡◌, ◌≤◌, ◌^◌, ℕ, List, Some, true, IfOk, IfErr};
 ghost use Rattle.zk_port.specs.Disks.{Stays};
-ghost use Rattle.zk_model.specs.Twins.{HasTwinHeader, IsFirstTwinWrong, are_twin_slots, twin_code, twin_header, twin_slots_at};
+ghost use Rattle.lease_journal.specs.Twins.{HasTwinHeader, IsFirstTwinWrong, are_twin_slots, twin_code, twin_header, twin_slots_at};
 ghost use Rattle.lease_journal.specs.Causes.{HasStartCause};
 ghost use Rattle.lease_journal.specs.Headers.{NoHeaderCause};
 ghost use Rattle.lease_journal.specs.declared.fault.StartFault.TheVariants as start;

@@ -1,10 +1,10 @@
 // The heads of the areas, and which area is the active one.
 ghost use Rattle.std.specs.Prelude.{◌≡◌, ◌≤◌, ◌+◌, ◌^◌, ℕ, List, length, Some, IfOk, IfErr};
 ghost use Rattle.zk_port.specs.Disks.{Stays};
-ghost use Rattle.zk_model.specs.Twins.{twin_length};
+ghost use Rattle.lease_journal.specs.Twins.{twin_length};
 ghost use Rattle.zk_model.specs.declared.limits.TheConstants.{MAX_SLOTS};
 ghost use Rattle.lease_journal.specs.Causes.{HasStartCause};
-ghost use Rattle.twin_journal.specs.Starts.{AreaCause, HeadSays, IsFound, active_of};
+ghost use Rattle.twin_journal.specs.Starts.{AreaCause, HeadSays, IsActiveFound, active_of};
 
 use crate::OPEN;
 use crate::places::head_at;
@@ -62,7 +62,7 @@ pub fn read_active<B: Disk>(disk: &mut B, begin: u64, slots: u64) -> Result<Acti
     requires bounded { slots ≤ MAX_SLOTS }
     ensures found { IfOk result (λ active. (bytes : List ℕ) → (B.state disk.old).content ≡ Some bytes
         → begin + twin_length slots ≤ length bytes
-        → IsFound begin slots bytes active.second active.generation active.other_open) }
+        → IsActiveFound begin slots bytes active.second active.generation active.other_open) }
     ensures cause { IfErr result (λ e. (bytes : List ℕ) → (B.state disk.old).content ≡ Some bytes
         → begin + twin_length slots ≤ length bytes → AreaCause begin slots bytes e) }
     ensures unread { IfErr result (λ e. (bad : ℕ) → e ≡ StartFault.BadBody bad → ⊥) }

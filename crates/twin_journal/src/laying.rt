@@ -2,7 +2,7 @@
 ghost use Rattle.std.specs.Prelude.{◌≡◌, ◌≤◌, ◌+◌, ◌^◌, length, true, IfSome, IfOk, OnOk};
 ghost use Rattle.zk_port.specs.Counts.{HasDiskCause};
 ghost use Rattle.zk_port.specs.Images.{HasDiskRoom, Only};
-ghost use Rattle.zk_model.specs.Twins.{are_twin_slots, twin_length};
+ghost use Rattle.lease_journal.specs.Twins.{are_twin_slots, twin_length};
 ghost use Rattle.lease_journal.specs.Keeps.{ChangesAt};
 ghost use Rattle.twin_journal.specs.Laying.{HasAllBytes, HasFirstBytes, IsLaid};
 

@@ -1,7 +1,7 @@
 // How long a file is.
 ghost use Rattle.std.specs.Prelude.{◌≡◌, ◌<◌, ◌≤◌, ◌+◌, ◌*◌, ◌^◌, ℕ, List, length, nat_lt, Some, IfOk, IfErr, OnOk};
 ghost use Rattle.zk_port.specs.Disks.{Stays};
-ghost use Rattle.zk_model.specs.Twins.{twin_length};
+ghost use Rattle.lease_journal.specs.Twins.{twin_length};
 ghost use Rattle.zk_model.specs.declared.limits.TheConstants.{MAX_SLOTS};
 ghost use Rattle.lease_journal.specs.Causes.{HasStartCause};
 ghost use Rattle.twin_journal.specs.Starts.{LengthCause};

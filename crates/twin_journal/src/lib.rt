@@ -18,7 +18,7 @@
 #![tactic(auto)]
 
 ghost use Rattle.std.specs.Prelude.{◌≡◌, ◌≤◌, IfOk};
-ghost use Rattle.zk_model.specs.Twins.{blank_twin_bytes, first_head, twin_ceiling_slots};
+ghost use Rattle.lease_journal.specs.Twins.{blank_twin_bytes, first_head, twin_ceiling_slots};
 ghost use Rattle.zk_model.specs.declared.limits.TheConstants.{MAX_SLOTS};
 ghost use Rattle.twin_journal.specs.Laws.{BlankTwinIsNew, GenerationsGoOn, RecoversOneList, SaidIsTidy, SaysWhatItRecovers, TwinStartsAgain};
 

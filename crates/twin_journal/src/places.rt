@@ -1,6 +1,6 @@
 // Where the areas of a journal stand.
 ghost use Rattle.std.specs.Prelude.{◌≡◌, ◌≤◌, ◌^◌};
-ghost use Rattle.zk_model.specs.Twins.{head_at};
+ghost use Rattle.lease_journal.specs.Twins.{head_at};
 ghost use Rattle.zk_model.specs.declared.limits.TheConstants.{MAX_SLOTS};
 
 /// Where the head of an area stands.

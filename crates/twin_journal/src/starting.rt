@@ -2,13 +2,13 @@
 ghost use Rattle.std.specs.Prelude.{◌≡◌, ◌<◌, ◌≤◌, ◌+◌, ◌-◌, ◌*◌, ◌^◌, ℕ, List, length, min, sum_by, Some, true, false, IfOk, IfErr, OnOk};
 ghost use Rattle.zk_port.specs.Disks.{Stays};
 ghost use Rattle.zk_port.specs.Images.{Only};
-ghost use Rattle.zk_model.specs.Journals.{first_bodies, last_body};
-ghost use Rattle.zk_model.specs.Twins.{HoldsTwin, TwinStands, are_twin_slots, claimed_units};
+ghost use Rattle.lease_journal.specs.Journals.{first_bodies, last_body};
+ghost use Rattle.lease_journal.specs.Twins.{HoldsTwin, TwinStands, are_twin_slots, claimed_units};
 ghost use Rattle.zk_model.specs.declared.limits.TheConstants.{MAX_SLOTS};
 ghost use Rattle.lease_journal.specs.Causes.{HasStartCause};
 ghost use Rattle.lease_journal.specs.Scans.{HasRead};
 ghost use Rattle.lease_journal.specs.declared.fault.StartFault.TheVariants as start;
-ghost use Rattle.twin_journal.specs.Starts.{FileCause, IsFound, IsTwinOpened, LocateCause, TwinStartCause};
+ghost use Rattle.twin_journal.specs.Starts.{FileCause, IsActiveFound, IsTwinOpened, LocateCause, TwinStartCause};
 
 use crate::beginning::find_begin;
 use crate::header::read_header;
@@ -43,7 +43,7 @@ fn locate<B: Disk>(disk: &mut B, begin: u64, name: JournalName) -> Result<Locate
     ensures stands { IfOk result (λ found. (bytes : List ℕ) → (B.state disk.old).content ≡ Some bytes
         → TwinStands name.kind name.id name.total begin found.slots bytes) }
     ensures found { IfOk result (λ found. (bytes : List ℕ) → (B.state disk.old).content ≡ Some bytes
-        → IsFound begin found.slots bytes found.active.second found.active.generation
+        → IsActiveFound begin found.slots bytes found.active.second found.active.generation
         found.active.other_open) }
     ensures bounded { IfOk result (λ found. found.slots ≤ MAX_SLOTS) }
     ensures fits { IfOk result (λ found. are_twin_slots name.kind name.total found.slots ≡ true) }

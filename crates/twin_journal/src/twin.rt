@@ -3,14 +3,14 @@ ghost use Rattle.std.specs.Prelude.{◌≡◌, ◌<◌, ◌≤◌, ◌+◌, ◌-
 ghost use Rattle.zk_port.specs.Counts.{Rose};
 ghost use Rattle.zk_port.specs.Disks.{LeavesOnly, Stays};
 ghost use Rattle.zk_port.specs.Images.{Only};
-ghost use Rattle.zk_model.specs.Journals.{body_at, body_before, first_bodies};
-ghost use Rattle.zk_model.specs.Twins.{HoldsTwin, IsTwinTidy, SaysOldOrNew, TwinRecovers, TwinStands, are_twin_slots, area_at, head_at, twin_length};
+ghost use Rattle.lease_journal.specs.Journals.{body_at, body_before, first_bodies};
+ghost use Rattle.lease_journal.specs.Twins.{HoldsTwin, IsTwinTidy, SaysOldOrNew, TwinRecovers, TwinStands, are_twin_slots, area_at, head_at, twin_length};
 ghost use Rattle.zk_model.specs.declared.limits.TheConstants.{MAX_SLOTS};
 ghost use Rattle.lease_journal.specs.Causes.{BodyCause, PutCause};
 ghost use Rattle.lease_journal.specs.Keeps.{ChangesAt, Keeps};
 ghost use Rattle.lease_journal.specs.Scans.{HasRead};
 ghost use Rattle.lease_journal.specs.declared.fault.StartFault.TheVariants as start;
-ghost use Rattle.twin_journal.specs.Filling.{AreSlotsOf};
+ghost use Rattle.twin_journal.specs.Filling.{AreBodySlots};
 ghost use Rattle.twin_journal.specs.Starts.{FileCause, IsTwinOpened, SaysTwinSlots};
 ghost use Rattle.twin_journal.specs.States.{IsKept};
 
@@ -300,7 +300,7 @@ impl<B: Disk> Twin<B> {
             → IfSome (B.state self.new.disk).content (IsKept B.state self.new (F.rest next.old))) }
         ensures exact { OnOk result ((bytes : List ℕ) (bodies : List (ℕ × ℕ))
             → IsKept B.state self.old bodies bytes → self.old.generation + 1 < 2 ^ 64
-            → IfSome (B.state self.new.disk).content (AreSlotsOf
+            → IfSome (B.state self.new.disk).content (AreBodySlots
             (area_at self.old.begin self.old.slots (not self.old.second)) self.old.slots (F.rest next.old))) }
         ensures durable { OnOk result (Only (B.state self.new.disk).content (B.state self.new.disk).images) }
         ensures state { OnOk result (self.new ≡ record self.old {

@@ -21,7 +21,7 @@ use Rattle.field_program.specs.declared.step.Step.TheVariants as step
 use Rattle.field_program.specs.Slotting.{IsOperand, operands_of}
 use Rattle.field_program.proofs.Live.{first_live, live_first, out_live, needed_before, some_same}
 use Rattle.field_program.proofs.Operands.{operands_read, read_set}
-use Rattle.wire_auth.specs.Sides.{IsTaken}
+use Rattle.wire_auth.specs.Sides.{IsGivenTaken}
 use Rattle.wire_auth.specs.Walks.{AreHeldAt, AreReadIn, IsTakenBy}
 
 -- ---- the wires of a step
@@ -65,7 +65,7 @@ read_in program places k s at wires slots held stands has of are = by s has of (
         (ap (slice_index slots) both.0 ∙ read a (inl refl), ap (slice_index slots) both.1 ∙ read b (inr refl))
 
 -- the value that a step takes is that of its equation's term
-pub taken_is : (given : List ℕ) (s : Step) (taken : ℕ) → IsTakenBy given (step_equation s) taken → IsTaken given s taken
+pub taken_is : (given : List ℕ) (s : Step) (taken : ℕ) → IsTakenBy given (step_equation s) taken → IsGivenTaken given s taken
 taken_is given (step.Const out value) taken is = tt
 taken_is given (step.Copy out a) taken is = tt
 taken_is given (step.Not out a) taken is = tt

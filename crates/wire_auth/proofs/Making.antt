@@ -16,7 +16,7 @@ use Rattle.circuit_laws.proofs.CircuitIsProgram.{circuit_is_program, numbered, n
 use Rattle.circuit_laws.proofs.Ordered.{circuit_is_ordered}
 use Rattle.circuit_laws.proofs.Made.{one_made, bits_are_made}
 use Rattle.field_program.specs.Programs.{IsSmallProgram}
-use Rattle.wire_auth.specs.Sides.{IsBegun}
+use Rattle.wire_auth.specs.Sides.{AreFirstWires}
 use Rattle.wire_auth.specs.Values.{given_value, given_from, CanBeMade, with_step, after_steps, first_numbers, wires_made, given_made, after_numbers, numbers_carried, MadeExist, CarriedExist, BitsMakeProducts}
 use Rattle.wire_auth.proofs.Setting.{AreSoFar, one_more, all_met, all_follow, still_begun, begin_filled}
 use Rattle.zk_model.specs.declared.Product.{Product}
@@ -157,7 +157,7 @@ made_more program initial values now n out number step held at o k sets far = re
 
 -- all is made in the end
 pub all_made : (program : Program) (public inputs initial values : List ℕ) (n : ℕ) → CanBeMade program → n ≡ length program.steps
-    → length inputs ≡ program.inputs → AreMadeSoFar program initial values n → IsBegun 1 program public inputs initial
+    → length inputs ≡ program.inputs → AreMadeSoFar program initial values n → AreFirstWires 1 program public inputs initial
     → AreMade program public inputs values (given_from program values)
 all_made program public inputs initial values n held end counted far begun =
     let now = still_begun 1 program public inputs initial values begun far.whole far.first in
@@ -194,7 +194,7 @@ after_made program initial (suc n) held whole within =
     (after_made program initial n held whole (omega (arith, within))))
 
 begins : (one : ℕ) (program : Program) (public given inputs : List ℕ) → IsProgram program → length public ≡ program.public → length inputs ≡ program.inputs
-    → take program.inputs given ≡ inputs → IsBegun one program public given (first_numbers one program public inputs)
+    → take program.inputs given ≡ inputs → AreFirstWires one program public given (first_numbers one program public inputs)
 begins one program public given inputs formed p few same =
     begin_filled one program public given inputs first (first_numbers one program public inputs) rest program.wires p few same formed refl refl
     (ap (λ l. l ++ rest) (sym (take_all program.wires first short))) whole
@@ -247,7 +247,7 @@ carried_exist one program public given formed p enough =
     first : List ℕ
     first = first_numbers one program public inputs
 
-    begun : IsBegun one program public given first
+    begun : AreFirstWires one program public given first
     begun = begins one program public given inputs formed p (length-take-le program.inputs given enough) refl
 
 -- ---- circuits

@@ -12,7 +12,7 @@ use Rattle.zk_model.proofs.SetWires.{set_below}
 use Rattle.field_program.specs.declared.step.Step.{Step}
 use Rattle.field_program.specs.declared.step.Step.TheVariants.{Const, Copy, Not, Mul, XorFrom}
 use Rattle.field_program.specs.Steps.{step_equation}
-use Rattle.wire_auth.specs.Sides.{ReadsWithin, TakesWithin, IsBegun}
+use Rattle.wire_auth.specs.Sides.{ReadsWithin, TakesWithin, AreFirstWires}
 use Rattle.zk_model.specs.Field.{◌*ₚ◌}
 
 -- the wires that step n reads and sets are there
@@ -86,9 +86,9 @@ take_first (suc p) i (x ∷ l) =
     ap (λ xs. x ∷ xs) (take_first p i l) ∙ ap (λ n. take (suc p) (take n (x ∷ l))) (sym count)
 
 -- what began still begins so
-pub still_begun : (one : ℕ) (program : Program) (public given initial now : List ℕ) → IsBegun one program public given initial
+pub still_begun : (one : ℕ) (program : Program) (public given initial now : List ℕ) → AreFirstWires one program public given initial
     → length now ≡ program.wires → take (program.public + program.inputs) now ≡ take (program.public + program.inputs) initial
-    → IsBegun one program public given now
+    → AreFirstWires one program public given now
 still_begun one program public given initial now begun whole first = record {
   whole = whole;
   constants = take_first program.public program.inputs now ∙ ap (take program.public) first ∙ sym (take_first program.public program.inputs initial) ∙ begun.constants;
@@ -97,7 +97,7 @@ still_begun one program public given initial now begun whole first = record {
 
 -- all wires follow in the end
 pub all_follow : (program : Program) (one : ℕ) (public given initial wires : List ℕ) (n : ℕ)
-    → n ≡ length program.steps → AreSoFar program one given initial wires n → IsBegun one program public given initial
+    → n ≡ length program.steps → AreSoFar program one given initial wires n → AreFirstWires one program public given initial
     → Carries one program public given wires
 all_follow program one public given initial wires n end far begun =
     let now = still_begun one program public given initial wires begun far.whole far.first in
@@ -114,7 +114,7 @@ all_follow program one public given initial wires n end far begun =
 pub begin_filled : (one : ℕ) (program : Program) (public given inputs first wires rest : List ℕ) (n : ℕ) → length public ≡ program.public
     → length inputs ≡ program.inputs → take program.inputs given ≡ inputs → IsProgram program → n ≡ program.wires
     → first ≡ map (λ value. value *ₚ one) public ++ inputs → wires ≡ take n first ++ rest → length wires ≡ n
-    → IsBegun one program public given wires
+    → AreFirstWires one program public given wires
 begin_filled one program public given inputs first wires rest n p few same formed w is filled whole =
     let front = map (λ value. value *ₚ one) public in
     let sized : length front ≡ program.public = length-map public (λ value. value *ₚ one) ∙ p in

@@ -46,13 +46,13 @@ TakesWithin given (XorFrom out a b product) = product < given
 TakesWithin given step = Unit {0}
 
 -- this is the number of the given value that a step takes
-abbrev pub IsTaken : List ℕ → Step → ℕ → Type 0
-IsTaken given (Mul out a b product) taken = taken ≡ slice_index given product
-IsTaken given (XorFrom out a b product) taken = taken ≡ slice_index given product
-IsTaken given step taken = Unit {0}
+abbrev pub IsGivenTaken : List ℕ → Step → ℕ → Type 0
+IsGivenTaken given (Mul out a b product) taken = taken ≡ slice_index given product
+IsGivenTaken given (XorFrom out a b product) taken = taken ≡ slice_index given product
+IsGivenTaken given step taken = Unit {0}
 
 -- one number for each wire: the public values times `one`, and then the first given values
-pub record IsBegun (one : ℕ) (program : Program) (public given wires : List ℕ) : Type 0 where
+pub record AreFirstWires (one : ℕ) (program : Program) (public given wires : List ℕ) : Type 0 where
   pub whole : length wires ≡ program.wires
   pub constants : take program.public wires ≡ map (λ value. value *ₚ one) public
   pub inputs : take program.inputs (drop program.public wires) ≡ take program.inputs given

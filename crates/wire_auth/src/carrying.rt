@@ -3,7 +3,7 @@ ghost use Rattle.std.specs.Prelude.{◌≡◌, ◌<◌, ◌≤◌, ◌++◌, ℕ
 ghost use Rattle.zk_model.specs.Field.{IsElement, ◌*ₚ◌};
 ghost use Rattle.zk_model.specs.Program.{Carries, step_value};
 ghost use Rattle.field_program.specs.Steps.{step_equation};
-ghost use Rattle.wire_auth.specs.Sides.{ReadsWithin, TakesWithin, IsBegun, IsTaken};
+ghost use Rattle.wire_auth.specs.Sides.{ReadsWithin, TakesWithin, AreFirstWires, IsGivenTaken};
 
 use field_program::{FieldProgram, Step};
 use mersenne_field::Fe;
@@ -23,7 +23,7 @@ pub(crate) fn known(number: Fe) -> Fe
 /// constant 1 is `one`: 1 among values, 0 among MACs, and the verifier's one key among keys.
 pub(crate) fn step_number(step: &Step, one: Fe, wires: &[Fe], taken: Fe) -> Fe
     requires { ReadsWithin (length wires.now) step.now }
-    ensures { (given : List ℕ) → IsTaken given step.now taken
+    ensures { (given : List ℕ) → IsGivenTaken given step.now taken
         → result ≡ step_value one wires.now given (step_equation step.now) }
 {
     match *step {
@@ -68,7 +68,7 @@ pub(crate) fn begun(
     requires public { length public.now ≡ program.now.public }
     requires inputs { length inputs.now ≡ program.now.inputs }
     ensures { IfOk result (λ wires. (given : List ℕ) → take program.now.inputs given ≡ inputs.now
-        → IsBegun one program.now public.now given wires.items) }
+        → AreFirstWires one program.now public.now given wires.items) }
 {
     let mut wires = first_numbers(alloc, public, one, inputs)?;
     wires.resize(program.wires(), Fe::ZERO)?;
@@ -78,7 +78,7 @@ pub(crate) fn begun(
 /// The number of the given value that a step takes, and 0 where it takes none.
 fn taken_number(step: &Step, given: &[Fe]) -> Fe
     requires { TakesWithin (length given.now) step.now }
-    ensures { IsTaken given.now step.now result }
+    ensures { IsGivenTaken given.now step.now result }
 {
     match *step {
         Step::Mul { product, .. } | Step::XorFrom { product, .. } => known(given[product as usize]),
@@ -92,7 +92,7 @@ pub(crate) fn follow(program: &FieldProgram, one: Fe, given: &[Fe], begun: Vec<F
     requires begun { length begun.items ≡ program.now.wires }
     requires given { length given.now ≡ program.now.givens }
     ensures whole { length result.items ≡ program.now.wires }
-    ensures carried { (public : List ℕ) → IsBegun one program.now public given.now begun.items
+    ensures carried { (public : List ℕ) → AreFirstWires one program.now public given.now begun.items
         → Carries one program.now public given.now result.items }
 {
     let mut wires = begun;

@@ -3,7 +3,7 @@ ghost use Rattle.std.specs.Prelude.{◌≡◌, ◌<◌, ◌≤◌, ℕ, List, le
 ghost use Rattle.zk_model.specs.Field.{IsElement};
 ghost use Rattle.zk_model.specs.Program.{AreMade};
 ghost use Rattle.field_program.specs.Rules.{HasFactors};
-ghost use Rattle.wire_auth.specs.Sides.{IsBegun, IsTaken};
+ghost use Rattle.wire_auth.specs.Sides.{AreFirstWires, IsGivenTaken};
 ghost use Rattle.wire_auth.specs.Values.{BitsMakeProducts, given_from, given_value};
 
 use crate::carrying::{begun, known, step_number};
@@ -30,7 +30,7 @@ pub(crate) fn given_value(program: &FieldProgram, values: &[Fe], product: Produc
 fn taken_value(program: &FieldProgram, values: &[Fe], step: &Step) -> Fe
     requires values { length values.now ≡ program.now.wires }
     requires factors { HasFactors program.now.products step.now }
-    ensures { IsTaken (given_from program.now values.now) step.now result }
+    ensures { IsGivenTaken (given_from program.now values.now) step.now result }
 {
     match *step {
         Step::Mul { a, b, product, .. } | Step::XorFrom { a, b, product, .. } => {
@@ -44,7 +44,7 @@ fn taken_value(program: &FieldProgram, values: &[Fe], step: &Step) -> Fe
 fn follow_values(program: &FieldProgram, begun: Vec<Fe>) -> Vec<Fe>
     requires { length begun.items ≡ program.now.wires }
     ensures { (public inputs : List ℕ) → length inputs ≡ program.now.inputs
-        → IsBegun 1 program.now public inputs begun.items
+        → AreFirstWires 1 program.now public inputs begun.items
         → AreMade program.now public inputs result.items (given_from program.now result.items) }
 {
     let mut values = begun;

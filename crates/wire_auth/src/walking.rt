@@ -5,7 +5,7 @@ ghost use Rattle.zk_model.specs.Slots.{IsPlanOf};
 ghost use Rattle.zk_model.specs.declared.Product as zk;
 ghost use Rattle.field_program.specs.Programs.{values_taken};
 ghost use Rattle.field_program.specs.Steps.{step_equation};
-ghost use Rattle.wire_auth.specs.Sides.{IsTaken};
+ghost use Rattle.wire_auth.specs.Sides.{IsGivenTaken};
 ghost use Rattle.wire_auth.specs.Walks.{Part, AreHeldAt, AreReadIn, AreSlotsWithin, Follows, IsAlong, IsTakenBy, TakesAt};
 
 use crate::carried::Carried;
@@ -52,7 +52,7 @@ fn step_number<N: Carried>(slots: &[N], at: StepSlots, step: &Step, one: N, take
     requires { AreSlotsWithin (length slots.now) at }
     ensures { (which : Part) (wires given : List ℕ)
         → AreReadIn at (map (N.part which) slots.now) wires step.now
-        → IsTaken given step.now (N.part which taken)
+        → IsGivenTaken given step.now (N.part which taken)
         → N.part which result ≡ step_value (N.part which one) wires given (step_equation step.now) }
 {
     match *step {

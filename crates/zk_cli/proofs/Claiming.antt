@@ -1,8 +1,8 @@
 -- A journal of claims that was opened, and added to as its claimant says.
 use Rattle.std.proofs.Common.{◌≡◌, ◌⊎◌, ◌+◌, ◌-◌, ◌^◌, ◌<◌, ◌≤◌, ◌++◌, ◌∷◌, [], ℕ, List, Option, None, Some, Result, Ok, Err, IsSomeAnd, IfSome, refl, sym, ap, ◌∙◌, subst, inl, inr, arith}
 use Rattle.std.specs.Prelude.{MatchOption}
-use Rattle.zk_model.specs.ClaimedRanges.{AreMerged, RiseFrom}
-use Rattle.zk_model.specs.Twins.{HoldsTwin}
+use Rattle.claim_store.specs.ClaimedRanges.{AreMerged, RiseFrom}
+use Rattle.lease_journal.specs.Twins.{HoldsTwin}
 use Rattle.zk_model.specs.declared.JournalKind.TheVariants as kind
 use Rattle.zk_model.specs.declared.Span.{Span}
 use Rattle.zk_port.specs.Counts.{Rose}
@@ -11,12 +11,12 @@ use Rattle.zk_port.specs.Images.{Only, StepsBy}
 use Rattle.zk_port.specs.Logs.{appended}
 use Rattle.lease_core.specs.Spans.{span}
 use Rattle.lease_journal.proofs.Moments.{leaves_also, leaves_both}
-use Rattle.claim_store.specs.Claims.{ClaimState, AreClaims, AreDurable, AreInUse, SaysClaims, SaysOldOrNew, first_met}
+use Rattle.claim_store.specs.Claims.{ClaimState, AreClaims, AreDurable, AreInUse, SaysClaims, SaysOldOrNewClaims, first_met}
 use Rattle.claim_store.proofs.Meeting.{claims_more, none_apart}
 use Rattle.claim_store.specs.declared.ClaimFault.{ClaimFault}
 use Rattle.claim_store.specs.declared.ClaimFault.TheVariants.{Broken, OutOfRange, Overlap, Full, Device, NoMemory}
 use Rattle.session_prover.specs.Stores.{Claims}
-use Rattle.file_commands.specs.ClaimedUnits.{AllHave, AnswersClaim, FindsClaims, FindsMore, KeepsClaims, LeavesAll, LeavesClaims, MayFind, MovesBy, MovesClaims, Place, asked_span}
+use Rattle.file_commands.specs.ClaimedUnits.{AllHave, AnswersClaim, FindsClaims, FindsMore, KeepsClaims, LeavesAll, LeavesClaims, MayFind, MovesBy, MovesClaims, JournalPlace, asked_span}
 use Rattle.file_commands.specs.Journals.{OpensJournal, disk_change}
 
 -- free units stand after the claims
@@ -50,7 +50,7 @@ by_store {C} {D} store_of disk_state before after store later asked (Some answer
     (λ i. (from i, sym to i)) moved
 
 -- where a store's journal is
-abbrev pub place_of : {D : Type 0} → ClaimState D → Place
+abbrev pub place_of : {D : Type 0} → ClaimState D → JournalPlace
 place_of store = record { begin = store.begin; slots = store.slots }
 
 module _ {D : Type 0} (disk_state : D → DiskState) (old : DiskState) (store : ClaimState D) (choice : Choice) (id : List ℕ) (total : ℕ)
@@ -141,12 +141,12 @@ module _ {D : Type 0} (disk_state : D → DiskState) (old : DiskState) (store : 
 
     -- bytes in which the journal stands find what they say
     finds_either : (bytes : List ℕ) → HoldsTwin kind.Claims id total store.begin store.slots bytes
-        → SaysOldOrNew total store.begin store.slots store.claims asked bytes → one_way bytes
+        → SaysOldOrNewClaims total store.begin store.slots store.claims asked bytes → one_way bytes
     finds_either bytes here (inl has) = inl (record { holds = here; says = has })
     finds_either bytes here (inr has) = inr (record { ranges = has.ranges; merged = has.merged; finds = record { holds = here; says = has.says } })
 
-    said : (bytes : List ℕ) → SaysOldOrNew store.total store.begin store.slots store.claims asked bytes → SaysOldOrNew total store.begin store.slots store.claims asked bytes
-    said bytes has = subst (λ n. SaysOldOrNew n store.begin store.slots store.claims asked bytes) total_is has
+    said : (bytes : List ℕ) → SaysOldOrNewClaims store.total store.begin store.slots store.claims asked bytes → SaysOldOrNewClaims total store.begin store.slots store.claims asked bytes
+    said bytes has = subst (λ n. SaysOldOrNewClaims n store.begin store.slots store.claims asked bytes) total_is has
 
     bytes_now : (first : List ℕ) → old.content ≡ Some first → (bytes : List ℕ) × (new.content ≡ Some bytes)
     bytes_now first known = goes_on _ mid.content new.content first (known_mid first known) moved.changes.content
@@ -173,7 +173,7 @@ module _ {D : Type 0} (disk_state : D → DiskState) (old : DiskState) (store : 
         let now = bytes_now first known in
         record {
           read = some_and new.content now.0 one_way now.1 (finds_either now.0 (held_now first known now.0 now.1) (said now.0
-              (some_of new.content now.0 (SaysOldOrNew store.total store.begin store.slots store.claims asked) now.1
+              (some_of new.content now.0 (SaysOldOrNewClaims store.total store.begin store.slots store.claims asked) now.1
               (moved.read whole small first (known_mid first known)))));
           durable = λ image some. (moments first known).each image (since_mid image some);
         }

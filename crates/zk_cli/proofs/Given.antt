@@ -6,7 +6,8 @@ use Rattle.zk_port.specs.Doors.{DoorState}
 use Rattle.zk_port.specs.Links.{LinkState}
 use Rattle.zk_port.specs.Shelves.{ShelfState}
 use Rattle.command_words.specs.BitWords.{Bits, BitsAsk, said, named}
-use Rattle.command_words.specs.Words.{Ask, rehearse, generate, eval, deal, serve, serve_many, prove, audit, migrate, status}
+use Rattle.command_words.specs.Words.{Ask}
+use Rattle.command_words.specs.declared.asks.Ask.TheVariants.{Rehearse as rehearse, Generate as generate, Eval as eval, Deal as deal, Serve as serve, ServeMany as serve_many, Prove as prove, Audit as audit, Migrate as migrate, Status as status}
 use Rattle.statement_file.specs.Services.{service_asked}
 use Rattle.proof_audit.specs.AuditRuns.{Audits}
 use Rattle.status_command.specs.StatusRuns.{Reports}
@@ -144,21 +145,6 @@ module _ {F L B D : Type 0} (shelf_tells : F → ShelfState) (door_tells : D →
     headline = subst (λ (s : ShelfState). ShowsClaims s.told ask part) same promises.headline;
     once = subst (λ (s : ShelfState). GrantsOnceIn s.told ask part disk) same promises.once;
   }
-
--- ---- what a run does, part by part
-
-module _ {F L B D : Type 0} (ask : Ask BitsAsk) (seed : List ℕ) (disk : DiskChange) (run : Run F L B D) where
-  pub meets_given : DoesGiven ask seed disk run → MeetsGiven ask seed disk run
-  meets_given (inl (given, is, promises)) = inl (given, is, promises.meets)
-  meets_given (inr lacks) = inr lacks
-
-  pub shows_given : DoesGiven ask seed disk run → ShowsGiven run.effects.shelf.old.told ask run.part
-  shows_given (inl (given, is, promises)) = inl (given, is, promises.headline)
-  shows_given (inr lacks) = inr lacks.plain
-
-  pub grants_given : DoesGiven ask seed disk run → GrantsOnceGiven run.effects.shelf.old.told ask run.part disk
-  grants_given (inl (given, is, promises)) = inl (given, is, promises.once)
-  grants_given (inr lacks) = inr lacks.plain
 
 -- a run says nothing beside the output, or a service is asked for that says how it goes
 pub quiet_or_follows : {A : Type 0} (IsReadAs : Ask BitsAsk → Type 0) (ask : Ask BitsAsk) (old new : A) → IsReadAs ask

@@ -8,7 +8,7 @@ use Rattle.zk_model.specs.declared.Span.{Span}
 use Rattle.zk_port.specs.Files.{Files}
 use Rattle.zk_port.specs.Links.{LinkState}
 use Rattle.session_core.specs.Jobs.{VerifierJobs}
-use Rattle.session_pool.specs.Notes.{AreApart, IsBetween}
+use Rattle.session_pool.specs.Notes.{AreGrantsApart, IsBetween}
 use Rattle.session_verifier.specs.ServiceLogs.{HaveApartNames, log_name}
 use Rattle.session_verifier.specs.declared.note.SessionNote.{SessionNote}
 use Rattle.statement_file.specs.Services.{Service}
@@ -20,7 +20,7 @@ use Rattle.zk_cli.proofs.Serving.{claim_job}
 -- two spans that have units, and none in common
 names_differ : (front : List ℕ) (base ceiling total m n : ℕ) (one other : Option Span) → 1 ≤ m → 1 ≤ n → total < 2 ^ 64
     → IsBetween m base ceiling one → IsBetween n base ceiling other → IfSome one (λ s. s.end ≤ total) → IfSome other (λ t. t.end ≤ total)
-    → AreApart one other → IfSome one (λ s. IfSome other (λ t. log_name front s.start ≢ log_name front t.start))
+    → AreGrantsApart one other → IfSome one (λ s. IfSome other (λ t. log_name front s.start ≢ log_name front t.start))
 names_differ front base ceiling total m n None other some_m some_n bounded between_one between_other within_one within_other apart = tt
 names_differ front base ceiling total m n (Some s) None some_m some_n bounded between_one between_other within_one within_other apart = tt
 names_differ front base ceiling total m n (Some s) (Some t) some_m some_n bounded between_one between_other within_one within_other apart = λ same.

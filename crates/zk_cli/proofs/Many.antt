@@ -7,7 +7,7 @@ use Rattle.zk_port.specs.Doors.{DoorState}
 use Rattle.zk_port.specs.Links.{LinkState}
 use Rattle.session_verifier.specs.declared.note.SessionNote.{SessionNote}
 use Rattle.command_words.specs.Words.{ServeManyAsk}
-use Rattle.statement_file.specs.Claims.{NamedClaim, HasFault, SaysClaims}
+use Rattle.statement_file.specs.Claims.{NamedClaim, HasFault, NamesClaims}
 use Rattle.statement_file.specs.Services.{Service, service_of_many}
 use Rattle.statement_file.specs.declared.fault.StatementFault.TheVariants.{BadLine, Count}
 use Rattle.statement_file.proofs.OneReading.{no_fault, one_list}
@@ -21,7 +21,7 @@ use Rattle.file_commands.proofs.Journals.{untouched}
 use Rattle.file_commands.proofs.Means.{IsHigh, stop_answers}
 use Rattle.zk_cli.specs.ManyRuns.{ServesMany, StatementsStop}
 use Rattle.zk_cli.specs.Runs.{EachNote, OfNotes}
-use Rattle.zk_cli.specs.ServeRuns.{HasServeFailed, IsServable, IsWithHonestPeer, Serves}
+use Rattle.zk_cli.specs.ServeRuns.{HasServeFailed, IsServable, IsWithHonestProver, Serves}
 use Rattle.zk_cli.specs.declared.finish.Part.{Part}
 use Rattle.zk_cli.specs.declared.finish.Part.TheVariants.{Plain, Proved, Rehearsed, Served}
 
@@ -41,7 +41,7 @@ statements_high ask shelf other cause = tt
 
 -- where the file of statements names claims, for want of memory alone
 statements_7 : (ask : ServeManyAsk) (shelf : ShelfChange) (claims : List NamedClaim) → shelf.old.told ≢ None
-    → HasText shelf.old.told ask.statements (λ text. SaysClaims text claims) → ¬ NameFailed ask.statements shelf
+    → HasText shelf.old.told ask.statements (λ text. NamesClaims text claims) → ¬ NameFailed ask.statements shelf
     → (why : Refusal) → StatementsStop ask shelf why → stop_status why ≡ 7
 statements_7 ask shelf claims tells named calm (stop.StatementLine line) cause =
     let same = told_text shelf.old.told ask.statements named.text cause.text tells named.loaded.stands cause.loaded.stands in
@@ -75,15 +75,15 @@ serves_none link_tells ask disk door run says kept =
 -- ---- the service of its claims
 
 pub serves_claims : {L : Type 0} (link_tells : L → LinkState) (ask : ServeManyAsk) (claims : List NamedClaim) (part : Part L)
-    (disk : DiskChange) (door : DoorChange) (run : Effects) → HasText run.shelf.old.told ask.statements (λ text. SaysClaims text claims)
+    (disk : DiskChange) (door : DoorChange) (run : Effects) → HasText run.shelf.old.told ask.statements (λ text. NamesClaims text claims)
     → Serves link_tells (service_of_many ask claims) part disk door run → ServesMany link_tells ask part disk door run
 serves_claims link_tells ask claims part disk door run named serves = record {
   runs = inl (service_of_many ask claims, (claims, named, refl), serves);
   done = λ service is ready calm quiet honest.
       let same_text = told_text run.shelf.old.told ask.statements named.text is.1.text ready.tells named.loaded.stands is.1.loaded.stands in
-      let same : is.0 ≡ claims = one_list named.text is.0 claims (subst (λ text. SaysClaims text is.0) same_text is.1.says) named.says in
+      let same : is.0 ≡ claims = one_list named.text is.0 claims (subst (λ text. NamesClaims text is.0) same_text is.1.says) named.says in
       let service_is : service ≡ service_of_many ask claims = is.2 ∙ ap (service_of_many ask) same in
       serves.done (subst (IsServable run.shelf.old.told disk.old) service_is ready)
       (subst (λ (s : Service). ¬ HasServeFailed s disk door run) service_is quiet)
-      (subst (λ (s : Service). EachNote part (IsWithHonestPeer link_tells run.shelf.old.told s)) service_is honest);
+      (subst (λ (s : Service). EachNote part (IsWithHonestProver link_tells run.shelf.old.told s)) service_is honest);
 }

@@ -5,7 +5,8 @@ use Rattle.dealer_files.specs.declared.fault.FileFault.TheVariants as file
 use Rattle.session_prover.specs.declared.note.ProverOutcome.{ProverOutcome}
 use Rattle.session_prover.specs.declared.note.ProverOutcome.TheVariants as ended
 use Rattle.command_words.specs.BitWords.{Bits}
-use Rattle.command_words.specs.Words.{Ask, ProveAsk, ServeManyAsk, rehearse, generate, eval, deal, serve, serve_many, prove, audit, migrate, status}
+use Rattle.command_words.specs.Words.{Ask, ProveAsk, ServeManyAsk}
+use Rattle.command_words.specs.declared.asks.Ask.TheVariants.{Rehearse as rehearse, Generate as generate, Eval as eval, Deal as deal, Serve as serve, ServeMany as serve_many, Prove as prove, Audit as audit, Migrate as migrate, Status as status}
 use Rattle.statement_file.specs.Services.{Service, service_asked}
 use Rattle.file_commands.specs.Effects.{DoorChange, Effects, ShelfChange}
 use Rattle.file_commands.specs.Journals.{DiskChange}

@@ -7,8 +7,8 @@ use Rattle.zk_port.specs.Doors.{after_listen}
 use Rattle.zk_port.specs.Links.{LinkState}
 use Rattle.lease_store.specs.Ceilings.{SaysCeiling}
 use Rattle.session_core.specs.Jobs.{VerifierJob, VerifierJobs}
-use Rattle.session_pool.specs.Doors.{Takes}
-use Rattle.session_pool.specs.Notes.{AreApart, IsLeft, IsNoteOf, IsRefusedAmong}
+use Rattle.session_pool.specs.Doors.{TakesLinks}
+use Rattle.session_pool.specs.Notes.{AreGrantsApart, IsLeft, IsNoteOf, IsRefusedAmong}
 use Rattle.session_verifier.specs.Outcomes.{lease_fault}
 use Rattle.session_verifier.specs.Sessions.{IsAnsweredNote}
 use Rattle.session_verifier.specs.declared.note.SessionNote.{SessionNote}
@@ -16,7 +16,7 @@ use Rattle.statement_file.specs.Services.{Service}
 use Rattle.file_commands.specs.Journals.{DiskChange, JournalStop, OpensJournal, OnlyReads, disk_change, own_journal, IsCeilingsFault}
 use Rattle.file_commands.specs.Effects.{DoorChange}
 use Rattle.file_commands.proofs.Journals.{keeps_ceiling, opened_is_read}
-use Rattle.zk_cli.specs.ServeRuns.{AreFew, LeadsJobs, OpeningStop, units_of_note}
+use Rattle.zk_cli.specs.ServeRuns.{TakeFewUnits, LeadsJobs, OpeningStop, units_of_note}
 use Rattle.file_commands.specs.Stops.{ListenStop}
 use Rattle.file_commands.specs.declared.refusal.Refusal.{Refusal}
 use Rattle.file_commands.specs.declared.refusal.Refusal.TheVariants as stop
@@ -27,7 +27,7 @@ first_file jobs job file at is = at ∙ ap (λ (j : VerifierJob). j.task.file) i
 
 -- no session is opened where the journal is not
 pub lacks_journal : (service : Service) (jobs : VerifierJobs) (disk : DiskChange) (door : DoorChange) (why : Refusal)
-    → AreFew jobs → OnlyReads (own_journal service.file) disk
+    → TakeFewUnits jobs → OnlyReads (own_journal service.file) disk
     → JournalStop (IsCeilingsFault jobs.first.task.file.id jobs.first.task.file.params.total disk.old) disk why → door.new ≡ door.old
     → OpeningStop service jobs disk door why
 lacks_journal service jobs disk door (stop.TooLarge need units) few reads cause same = absurd cause
@@ -35,7 +35,7 @@ lacks_journal service jobs disk door other few reads cause same = (few, reads, i
 
 -- or the door does not listen
 pub lacks_door : (service : Service) (jobs : VerifierJobs) (disk : DiskChange) (door : DoorChange) (why : Refusal)
-    → AreFew jobs → OpensJournal (own_journal service.file) disk → ListenStop service.address service.options.timeout door why
+    → TakeFewUnits jobs → OpensJournal (own_journal service.file) disk → ListenStop service.address service.options.timeout door why
     → OpeningStop service jobs disk door why
 lacks_door service jobs disk door (stop.TooLarge need units) few opens cause = absurd cause
 lacks_door service jobs disk door other few opens cause = (few, opened_is_read (own_journal service.file) disk opens, inr cause)
@@ -44,12 +44,12 @@ lacks_door service jobs disk door other few opens cause = (few, opened_is_read (
 pub leads_jobs : {L : Type 0} (link_tells : L → LinkState) (service : Service) (jobs : VerifierJobs) (notes : List (SessionNote L))
     (door_failed memory_failed : Bool) (old mid new : DiskState) (door : DoorChange) (base : ℕ)
     → ((image : List ℕ) → old.images_since old.moment image → old.images image)
-    → AreFew jobs → OpensJournal (own_journal service.file) (disk_change old mid)
+    → TakeFewUnits jobs → OpensJournal (own_journal service.file) (disk_change old mid)
     → ((bytes : List ℕ) → old.content ≡ Some bytes → SaysCeiling jobs.first.task.file.id jobs.first.task.file.params.total base bytes)
     → All (IsNoteOf (IsAnsweredNote link_tells jobs)) notes
-    → Takes service.options.sessions (length notes) door_failed memory_failed
+    → TakesLinks service.options.sessions (length notes) door_failed memory_failed
     (after_listen service.address service.options.timeout service.options.sessions door.old) door.new
-    → AllPairs (λ (one other : SessionNote L). AreApart one.granted other.granted) notes
+    → AllPairs (λ (one other : SessionNote L). AreGrantsApart one.granted other.granted) notes
     → (fresh : Type 0) → fresh → IsLeft fresh mid new jobs.first.task.file.id base jobs.first.task.file.params.total service.options.workers (units_of_note jobs) (λ (note : SessionNote L). note.granted)
     (λ (note : SessionNote L). lease_fault note.outcome) notes
     → All (λ note. IfSome (lease_fault note.outcome) (IsRefusedAmong (units_of_note jobs) base jobs.first.task.file.params.total notes note)) notes

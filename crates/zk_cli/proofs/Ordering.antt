@@ -12,8 +12,8 @@ use Rattle.zk_port.specs.Links.{LinkState}
 use Rattle.lease_core.specs.Machine.{ceiling_for}
 use Rattle.lease_store.specs.declared.LeaseFault.{LeaseFault}
 use Rattle.session_core.specs.Jobs.{VerifierJobs}
-use Rattle.session_pool.specs.Doors.{Takes}
-use Rattle.session_pool.specs.Notes.{AreApart, IsBetween, IsMarked, IsRefusedAmong, IsRefusedBy, TellsMark, meets_fault}
+use Rattle.session_pool.specs.Doors.{TakesLinks}
+use Rattle.session_pool.specs.Notes.{AreGrantsApart, IsBetween, IsMarked, IsRefusedAmong, IsRefusedBy, TellsMark, meets_fault}
 use Rattle.session_verifier.specs.Outcomes.{lease_fault}
 use Rattle.session_verifier.specs.Sessions.{IsNote}
 use Rattle.session_verifier.specs.declared.note.SessionNote.{SessionNote}
@@ -22,7 +22,7 @@ use Rattle.file_commands.specs.Journals.{DiskChange}
 use Rattle.file_commands.specs.Effects.{DoorChange}
 use Rattle.zk_cli.specs.ServeRuns.{LeadsFiles, LeadsJobs, units_of_note}
 
-apart_both : (a b : Option Span) → AreApart a b → AreApart b a
+apart_both : (a b : Option Span) → AreGrantsApart a b → AreGrantsApart b a
 apart_both None None apart = tt
 apart_both None (Some t) apart = tt
 apart_both (Some s) None apart = tt
@@ -108,14 +108,14 @@ leads_permuted {L} link_tells service jobs notes ordered door_failed memory_fail
     record {
       few = leads.few;
       each = All-permutation (IsNote link_tells jobs) notes ordered permuted leads.each;
-      taken = subst (λ (n : ℕ). Takes service.options.sessions n door_failed memory_failed
+      taken = subst (λ (n : ℕ). TakesLinks service.options.sessions n door_failed memory_failed
           (after_listen service.address service.options.timeout service.options.sessions door.old) door.new) (sym same) leads.taken;
       base = leads.base;
       recovered = leads.recovered;
       ceiling = leads.ceiling;
       mark = leads.mark;
       kept = leads.kept;
-      apart = pairs_permuted (λ (one other : SessionNote L). AreApart one.granted other.granted)
+      apart = pairs_permuted (λ (one other : SessionNote L). AreGrantsApart one.granted other.granted)
           (λ one other. apart_both one.granted other.granted) notes ordered permuted leads.apart;
       spans = All-permutation (λ (note : SessionNote L). IsBetween (units_of_note jobs note) leads.base leads.ceiling note.granted) notes ordered permuted leads.spans;
       within = All-permutation (λ (note : SessionNote L). IfSome note.granted (λ span. span.end ≤ total)) notes ordered permuted leads.within;

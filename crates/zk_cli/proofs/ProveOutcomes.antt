@@ -13,7 +13,7 @@ use Rattle.zk_model.specs.Transcript.{Grant}
 use Rattle.zk_model.specs.declared.Span.{Span}
 use Rattle.claim_store.specs.declared.ClaimFault.{ClaimFault}
 use Rattle.claim_store.specs.declared.ClaimFault.TheVariants as claim
-use Rattle.claim_store.specs.Causes.{AreFew, AreMore, ClaimsStartAgain}
+use Rattle.claim_store.specs.Causes.{AreFewClaims, AreMore, ClaimsStartAgain}
 use Rattle.claim_store.proofs.Units.{ranges_one}
 use Rattle.claim_store.specs.declared.fault.StoreFault.TheVariants as store
 use Rattle.lease_journal.specs.declared.fault.StartFault.{StartFault}
@@ -29,7 +29,7 @@ use Rattle.command_words.specs.BitWords.{Bits}
 use Rattle.command_words.specs.Words.{ProveAsk}
 use Rattle.file_commands.specs.ClaimedUnits.{AnswersClaim, KeepsClaims, MovesBy, asked_span}
 use Rattle.file_commands.specs.Journals.{DiskChange, JournalStop, own_journal, IsClaimsFault, HasClaims}
-use Rattle.zk_cli.specs.ProveRuns.{AreFree, HasProveFailed, HoldsAsked, IsProvable, IsProveName, IsSatisfied, IsWithHonestPeer}
+use Rattle.zk_cli.specs.ProveRuns.{AreFree, HasProveFailed, HoldsAsked, IsProvable, IsProveName, IsSatisfied, IsWithHonestVerifier}
 use Rattle.file_commands.specs.Stops.{ConnectStop, PrintsMade, stop_line, stop_status}
 use Rattle.zk_cli.specs.ProveRuns.{OfProved, ProveLines, ProveMeans, Proves, ProveStop, WiresStop, WitnessStop, proved_line, proved_status}
 use Rattle.file_commands.specs.Effects.{ShelfChange, DoorChange, Effects, NameFailed, OnlyLoads, IsDone}
@@ -150,7 +150,7 @@ ok_is_err : {span : Span} {fault : ClaimFault} → ◌≡◌ {A = Option (Result
 ok_is_err same = cc
 
 -- ranges are few or more
-few_or_more : (slots : ℕ) (claims : List Span) (s : Span) → AreFew slots claims s → AreMore slots claims s → ⊥
+few_or_more : (slots : ℕ) (claims : List Span) (s : Span) → AreFewClaims slots claims s → AreMore slots claims s → ⊥
 few_or_more slots claims s few more =
     let same : few.ranges ≡ more.ranges = ranges_one 0 few.ranges more.ranges few.merged.rising more.merged.rising (λ unit. few.merged.same unit ∙ sym (more.merged.same unit)) in
     let low = few.few in
@@ -161,7 +161,7 @@ few_or_more slots claims s few more =
 -- a claim that was refused had no memory
 refused_memory : {L : Type 0} (link_tells : L → LinkState) (ask : ProveAsk Bits) (note : ProverNote L) (told : Option Files) (disk : DiskChange)
     (door : DoorChange) (asked : HoldsAsked link_tells ask note told disk door)
-    → HasClaims asked.job.file.id asked.job.file.params.total disk.old.content → IsWithHonestPeer link_tells told disk.old ask note
+    → HasClaims asked.job.file.id asked.job.file.params.total disk.old.content → IsWithHonestVerifier link_tells told disk.old ask note
     → ¬ Rose disk.old.faults disk.new.faults → (fault : ClaimFault) → asked.holds.claim.answer ≡ Some (Err fault) → fault ≡ claim.NoMemory
 refused_memory link_tells ask note told disk door asked has honest calm fault refused =
     of_asked asked.holds.is_note.granted_is.asked
@@ -207,7 +207,7 @@ refused_memory link_tells ask note told disk door asked has honest calm fault re
 
 note_done : {L : Type 0} (link_tells : L → LinkState) (ask : ProveAsk Bits) (note : ProverNote L) (told : Option Files) (disk : DiskChange)
     (door : DoorChange) (asked : HoldsAsked link_tells ask note told disk door)
-    → HasClaims asked.job.file.id asked.job.file.params.total disk.old.content → IsWithHonestPeer link_tells told disk.old ask note
+    → HasClaims asked.job.file.id asked.job.file.params.total disk.old.content → IsWithHonestVerifier link_tells told disk.old ask note
     → ¬ Rose disk.old.faults disk.new.faults → (note.outcome ≡ ended.Accepted) ⊎ (note.outcome ≡ ended.NoMemory)
 note_done {L} link_tells ask note told disk door asked has honest calm = of_answer asked.holds.claim.answer refl
   where
@@ -231,7 +231,7 @@ note_done {L} link_tells ask note told disk door asked has honest calm = of_answ
 prove_is_done : {L : Type 0} (link_tells : L → LinkState) → OneCircuit → ClaimsStartAgain → (ask : ProveAsk Bits) (part : Part L) (disk : DiskChange)
     (door : DoorChange) (run : Effects) → ProveLines link_tells ask part disk door run → ProveMeans ask part disk door run
     → IsProvable run.shelf.old.told disk.old ask → ¬ HasProveFailed ask disk door run
-    → OfProved part (IsWithHonestPeer link_tells run.shelf.old.told disk.old ask) → IsDone run.status
+    → OfProved part (IsWithHonestVerifier link_tells run.shelf.old.told disk.old ask) → IsDone run.status
 prove_is_done {L} link_tells one law ask (Proved note) disk door run says means ready calm honest =
     of_means means (note_done link_tells ask note run.shelf.old.told disk door says.0
     (ready.journal says.0.circuit says.0.job says.0.proved) honest (λ rose. calm (inr (inl rose))))

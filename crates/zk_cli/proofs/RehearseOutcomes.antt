@@ -5,18 +5,19 @@ use Rattle.zk_model.specs.Circuit.{Circuit}
 use Rattle.zk_model.specs.declared.limits.TheConstants.{MAX_UNITS}
 use Rattle.bristol_reader.specs.Laws.{OneCircuit}
 use Rattle.command_words.specs.BitWords.{Bits}
-use Rattle.command_words.specs.Words.{RehearseAsk, GenerateAsk}
+use Rattle.command_words.specs.Words.{RehearseAsk}
+use Rattle.command_words.specs.declared.asks.GenerateAsk.{GenerateAsk}
 use Rattle.session_rehearsal.specs.Rehearsals.{EndsWithVerdict, rehearsal_units}
 use Rattle.zk_cli.specs.RehearseRuns.{Rehearses, RehearseStop, Accepts, AnswersFor, verdict_status, rehearsal_lines, SaysRehearsal, IsRehearsed, IsGenerated, GenerateStop, Generates}
 use Rattle.file_commands.specs.Effects.{ShelfChange, Effects, OnlyLoads, IsName, HasFailed, NameFailed, SinkFailed}
-use Rattle.file_commands.specs.Stops.{CircuitStop, IsOfStop, IsReady, PrintsMade, StatusMeans, stop_status, SaysStop}
+use Rattle.file_commands.specs.Stops.{CircuitStop, IsOfStop, IsCircuitReady, PrintsMade, StatusMeans, stop_status, SaysStop}
 use Rattle.zk_cli.specs.declared.finish.Part.{Part}
 use Rattle.zk_cli.specs.declared.finish.Part.TheVariants.{Plain, Proved, Rehearsed, Served}
 use Rattle.file_commands.specs.declared.refusal.Refusal.{Refusal}
 use Rattle.file_commands.specs.declared.refusal.Refusal.TheVariants as stop
 use Rattle.file_commands.proofs.Causes.{told_circuit, circuit_lacks}
 use Rattle.file_commands.proofs.Means.{made_means, stop_means}
-use Rattle.zk_model.specs.Generated.{generated_circuit}
+use Rattle.circuit_gen.specs.Generated.{generated_circuit}
 use Rattle.zk_model.specs.declared.Verdict.TheVariants.{Accepted}
 use Rattle.session_rehearsal.specs.declared.rehearsal.Rehearsal.{Rehearsal}
 
@@ -57,7 +58,7 @@ means {L} ask seed part run lines =
 
 -- why a run stops that a shelf tells a fitting circuit: for want of memory, or since it takes too many units
 lacks : OneCircuit → (ask : RehearseAsk Bits) (shelf : ShelfChange) (circuit : Circuit)
-    → IsReady shelf.old.told ask.circuit (ask.public ++ ask.bits) circuit → ¬ NameFailed ask.circuit shelf → (why : Refusal) → RehearseStop ask shelf why
+    → IsCircuitReady shelf.old.told ask.circuit (ask.public ++ ask.bits) circuit → ¬ NameFailed ask.circuit shelf → (why : Refusal) → RehearseStop ask shelf why
     → (stop_status why ≡ 7) ⊎ ((stop_status why ≡ 9) × (MAX_UNITS < rehearsal_units circuit ask.public ask.kind ask.section))
 lacks one ask shelf circuit ready calm (stop.ManyPublic inputs got) cause =
     let same = ap (λ c. c.inputs) (told_circuit one shelf.old.told ask.circuit circuit cause.circuit ready.tells ready.file cause.file) in
@@ -85,7 +86,7 @@ lacks one ask shelf circuit ready calm other cause =
 
 -- a rehearsal that is handed back takes few enough units
 few_units : {L : Type 0} → OneCircuit → (ask : RehearseAsk Bits) (seed : List ℕ) (part : Part L) (run : Effects) (circuit : Circuit)
-    → IsReady run.shelf.old.told ask.circuit (ask.public ++ ask.bits) circuit → Lines ask seed part run → Accepts part run.sink
+    → IsCircuitReady run.shelf.old.told ask.circuit (ask.public ++ ask.bits) circuit → Lines ask seed part run → Accepts part run.sink
     → rehearsal_units circuit ask.public ask.kind ask.section ≤ MAX_UNITS
 few_units one ask seed (Rehearsed r) run circuit ready lines accepts =
     let made = lines.0 in
@@ -96,7 +97,7 @@ few_units one ask seed (Served notes) run circuit ready lines accepts = absurd a
 few_units one ask seed (Proved note) run circuit ready lines accepts = absurd accepts
 
 done : {L : Type 0} → OneCircuit → (ask : RehearseAsk Bits) (seed : List ℕ) (part : Part L) (run : Effects) (circuit : Circuit)
-    → Lines ask seed part run → IsReady run.shelf.old.told ask.circuit (ask.public ++ ask.bits) circuit → ¬ HasFailed (IsName ask.circuit) run
+    → Lines ask seed part run → IsCircuitReady run.shelf.old.told ask.circuit (ask.public ++ ask.bits) circuit → ¬ HasFailed (IsName ask.circuit) run
     → Means ask part run → AnswersFor (rehearsal_units circuit ask.public ask.kind ask.section) run.status
 done {L} one ask seed part run circuit lines ready calm means = of_means means
   where

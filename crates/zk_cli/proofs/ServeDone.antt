@@ -33,11 +33,11 @@ use Rattle.statement_file.specs.Claims.{NamedClaim}
 use Rattle.statement_file.specs.Services.{Service}
 use Rattle.file_commands.specs.Journals.{DiskChange, JournalStop, IsCeilingsFault, LeavesUnits}
 use Rattle.session_verifier.specs.NoteLines.{has_status, outcome_status}
-use Rattle.file_commands.specs.Effects.{ShelfChange, DoorChange, Effects, NameFailed, OthersStay, OnlyAsks, IsDone}
+use Rattle.file_commands.specs.Effects.{ShelfChange, DoorChange, Effects, NameFailed, OtherNamesStay, OnlyAsks, IsDone}
 use Rattle.zk_cli.specs.Runs.{EachNote}
-use Rattle.zk_cli.specs.ServeRuns.{AreFew, IsCircuitName, IsFirstTooLarge, IsServeName, LacksClaim, OpeningStop, ServeStop, LeadsFiles, ServeLines, units_of_note}
+use Rattle.zk_cli.specs.ServeRuns.{TakeFewUnits, IsCircuitName, IsFirstTooLarge, IsServeName, LacksClaim, OpeningStop, ServeStop, LeadsFiles, ServeLines, units_of_note}
 use Rattle.file_commands.specs.Stops.{HasCircuit, ListenStop, stop_status}
-use Rattle.zk_cli.specs.ServeRuns.{IsServable, HasServeFailed, IsWithHonestPeer, NotesMean, ServeMeans, Serves}
+use Rattle.zk_cli.specs.ServeRuns.{IsServable, HasServeFailed, IsWithHonestProver, NotesMean, ServeMeans, Serves}
 use Rattle.session_verifier.specs.ServiceLogs.{IsLogName}
 use Rattle.zk_cli.specs.declared.finish.Part.{Part}
 use Rattle.zk_cli.specs.declared.finish.Part.TheVariants.{Plain, Proved, Rehearsed, Served}
@@ -82,7 +82,7 @@ listen_7 address patience door calm stop.DoorFailed cause = absurd (calm cause.1
 listen_7 address patience door calm stop.NoMemory cause = refl
 listen_7 address patience door calm other cause = absurd cause
 
-none_too_large : (jobs : VerifierJobs) (need units : ℕ) → AreFew jobs → IsFirstTooLarge (all_jobs jobs) (record { need = need; units = units }) → ⊥
+none_too_large : (jobs : VerifierJobs) (need units : ℕ) → TakeFewUnits jobs → IsFirstTooLarge (all_jobs jobs) (record { need = need; units = units }) → ⊥
 none_too_large jobs need units few large =
     let here = All-contains (λ (job : VerifierJob). units_of_job job ≤ MAX_UNITS) (all_jobs jobs) large.job few
     (stands_among (all_jobs jobs) large.before large.behind large.job large.are) in
@@ -90,7 +90,7 @@ none_too_large jobs need units few large =
     let same = large.large.units in
     omega (arith, many, same, here)
 
-opening_7 : CeilingsStartAgain → (service : Service) (jobs : VerifierJobs) (units : ℕ) (disk : DiskChange) (door : DoorChange) → AreFew jobs
+opening_7 : CeilingsStartAgain → (service : Service) (jobs : VerifierJobs) (units : ℕ) (disk : DiskChange) (door : DoorChange) → TakeFewUnits jobs
     → LeavesUnits jobs.first.task.file.id jobs.first.task.file.params.total units disk.old.content → ¬ Rose disk.old.faults disk.new.faults
     → ¬ Rose door.old.listen_faults door.new.listen_faults → (why : Refusal) → OpeningStop service jobs disk door why → stop_status why ≡ 7
 opening_7 law service jobs units disk door few leaves calm quiet (stop.TooLarge need more) cause = absurd (none_too_large jobs need more few cause.0)
@@ -168,7 +168,7 @@ module _ {L : Type 0} (link_tells : L → LinkState) (service : Service) (notes 
   unrefused note lease.Device marked refused some = calm (rose_by disk.old.faults files.leads.mark disk.new.faults (files.leads.kept.rose marked))
   unrefused note (lease.Broken first) marked refused some = calm (rose_by disk.old.faults files.leads.mark disk.new.faults (files.leads.kept.rose marked))
 
-  note_done : (place : ℕ) (default : SessionNote L) → place < length notes → IsWithHonestPeer link_tells told service (get_or notes place default)
+  note_done : (place : ℕ) (default : SessionNote L) → place < length notes → IsWithHonestProver link_tells told service (get_or notes place default)
       → ((get_or notes place default).outcome ≡ Accepted) ⊎ ((get_or notes place default).outcome ≡ NoMemory)
   note_done place default within honest =
       let note : SessionNote L = get_or notes place default in
@@ -206,7 +206,7 @@ no_status_in (note ∷ notes) status done some other same = elim (either_is (out
 notes_done : {L : Type 0} (link_tells : L → LinkState) (service : Service) (notes : List (SessionNote L)) (disk : DiskChange) (door : DoorChange)
     (run : Effects) (door_failed memory_failed : Bool) → IsServable run.shelf.old.told disk.old service
     → LeadsFiles link_tells service notes door_failed memory_failed run.shelf.old.told disk door
-    → All (IsWithHonestPeer link_tells run.shelf.old.told service) notes
+    → All (IsWithHonestProver link_tells run.shelf.old.told service) notes
     → ¬ HasServeFailed service disk door run → NotesMean service notes disk door run → IsDone run.status
 notes_done {L} link_tells service notes disk door run door_failed memory_failed ready files honest calm means = of_means means
   where
@@ -233,7 +233,7 @@ notes_done {L} link_tells service notes disk door run door_failed memory_failed 
 serve_is_done : {L : Type 0} (link_tells : L → LinkState) → OneCircuit → CeilingsStartAgain → (service : Service) (part : Part L) (disk : DiskChange) (door : DoorChange)
     (run : Effects) → ServeLines link_tells service part disk door run → ServeMeans service part disk door run
     → IsServable run.shelf.old.told disk.old service → ¬ HasServeFailed service disk door run
-    → EachNote part (IsWithHonestPeer link_tells run.shelf.old.told service) → IsDone run.status
+    → EachNote part (IsWithHonestProver link_tells run.shelf.old.told service) → IsDone run.status
 serve_is_done link_tells one law service (Served notes) disk door run says means ready calm honest =
     notes_done link_tells service notes.items disk door run says.door_failed says.memory_failed ready says.leads honest calm means
 serve_is_done link_tells one law service Plain disk door run says means ready calm honest = elim means [
@@ -244,7 +244,7 @@ serve_is_done link_tells one law service (Rehearsed r) disk door run says means 
 serve_is_done link_tells one law service (Proved note) disk door run says means ready calm honest = absurd says
 
 pub serves : {L : Type 0} (link_tells : L → LinkState) → OneCircuit → CeilingsStartAgain → (service : Service) (part : Part L) (disk : DiskChange) (door : DoorChange)
-    (run : Effects) → ServeLines link_tells service part disk door run → OthersStay (IsLogName service.options.logs) run.shelf.old.told run.shelf.new.told
+    (run : Effects) → ServeLines link_tells service part disk door run → OtherNamesStay (IsLogName service.options.logs) run.shelf.old.told run.shelf.new.told
     → OnlyAsks (IsServeName service) run.shelf → Serves link_tells service part disk door run
 serves link_tells one law service part disk door run lines others asked =
     let means = serve_means link_tells service part disk door run lines in record {

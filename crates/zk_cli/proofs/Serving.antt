@@ -14,7 +14,7 @@ use Rattle.zk_model.specs.declared.Side.{Side}
 use Rattle.zk_model.specs.declared.Span.{Span}
 use Rattle.zk_port.specs.Changes.{change}
 use Rattle.zk_port.specs.Counts.{Rose}
-use Rattle.dealer_files.specs.Faults.{IsFirstFault}
+use Rattle.dealer_files.specs.Faults.{IsFirstFileFault}
 use Rattle.zk_port.specs.Files.{Files, StandsLonger}
 use Rattle.lease_store.specs.declared.LeaseFault.{LeaseFault}
 use Rattle.session_core.specs.Jobs.{VerifierJob, VerifierJobs, all_jobs, job_at, noted_job}
@@ -29,7 +29,7 @@ use Rattle.session_verifier.specs.declared.note.VerifierOutcome.TheVariants.{Acc
 use Rattle.statement_file.specs.Claims.{NamedClaim, named_claim}
 use Rattle.statement_file.specs.Services.{Service}
 use Rattle.zk_model.specs.declared.limits.TheConstants.{FILE_LIMIT}
-use Rattle.file_commands.specs.Effects.{ShelfChange, DoorChange, OnlyLoads, OthersStay, IsName}
+use Rattle.file_commands.specs.Effects.{ShelfChange, DoorChange, OnlyLoads, OtherNamesStay, IsName}
 use Rattle.file_commands.specs.Journals.{DiskChange}
 use Rattle.session_verifier.specs.NoteLines.{start_of}
 use Rattle.zk_cli.specs.ServeRuns.{AreServeJobs, IsCircuitName, IsServeJob, IsLoadedName, LeadsFiles}
@@ -49,7 +49,7 @@ rose_since first before now earlier rose = grind (arith, earlier, rose)
 pub file_stop_since : (side : Side) (name : List ℕ) (old mid new : ShelfState) → mid.told ≡ old.told → old.faults_of name ≤ mid.faults_of name
     → (why : Refusal) → FileStop side name (change mid new) why → FileStop side name (change old new) why
 file_stop_since side name old mid new same earlier (stop.BadFile fault) cause =
-    subst (λ (told : Option Files). HasText told name (λ bytes. IsFirstFault side bytes fault)) same cause
+    subst (λ (told : Option Files). HasText told name (λ bytes. IsFirstFileFault side bytes fault)) same cause
 file_stop_since side name old mid new same earlier stop.ShelfFailed cause =
     rose_since (old.faults_of name) (mid.faults_of name) (new.faults_of name) earlier cause
 file_stop_since side name old mid new same earlier (stop.TooLong limit) cause =
@@ -74,7 +74,7 @@ loads_files service a b c claims file =
     (loads_among (IsName service.file) (IsLoadedName service) (change b c) (λ name is. inr is) file)
 
 -- where all files are as they were, so are those of other names
-pub others_same : (IsNamed : List ℕ → Type 0) (old new : Option Files) → new ≡ old → OthersStay IsNamed old new
+pub others_same : (IsNamed : List ℕ → Type 0) (old new : Option Files) → new ≡ old → OtherNamesStay IsNamed old new
 others_same IsNamed None new same = same
 others_same IsNamed (Some files) None same = cc
 others_same IsNamed (Some files) (Some others) same = λ other not. ap (λ (found : Option Files). file_in found other) same

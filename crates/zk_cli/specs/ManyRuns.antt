@@ -4,7 +4,7 @@ use Rattle.zk_port.specs.Files.{Files}
 use Rattle.zk_port.specs.Links.{LinkState}
 use Rattle.command_words.specs.Words.{ServeManyAsk, serve_many_ask}
 use Rattle.command_words.specs.Commands.{named_options}
-use Rattle.statement_file.specs.Claims.{NamedClaim, HasFault, SaysClaims}
+use Rattle.statement_file.specs.Claims.{NamedClaim, HasFault, NamesClaims}
 use Rattle.statement_file.specs.Services.{Service, service_of_many}
 use Rattle.statement_file.specs.declared.fault.StatementFault.TheVariants.{BadLine, Count}
 use Rattle.file_commands.specs.Effects.{DoorChange, Effects, IsDone, IsName, NameFailed, OnlyLoads, ShelfChange}
@@ -13,7 +13,7 @@ use Rattle.file_commands.specs.Stops.{HasText, IsOfStop, LoadStop, SaysStop}
 use Rattle.file_commands.specs.declared.refusal.Refusal.{Refusal}
 use Rattle.file_commands.specs.declared.refusal.Refusal.TheVariants as stop
 use Rattle.zk_cli.specs.Runs.{EachNote}
-use Rattle.zk_cli.specs.ServeRuns.{HasServeFailed, IsServable, IsWithHonestPeer, Serves}
+use Rattle.zk_cli.specs.ServeRuns.{HasServeFailed, IsServable, IsWithHonestProver, Serves}
 use Rattle.zk_cli.specs.declared.finish.Part.{Part}
 use Rattle.zk_cli.specs.declared.finish.Part.TheVariants.{Plain}
 use Rattle.zk_cli.specs.declared.many_command.ManyWords.{ManyWords}
@@ -26,7 +26,7 @@ many_words words =
 -- the service of claims that, where a shelf tells, the file of statements names
 abbrev pub IsServiceOfMany : Option Files → ServeManyAsk → Service → Type 0
 IsServiceOfMany told ask service = (claims : List NamedClaim)
-    × HasText told ask.statements (λ text. SaysClaims text claims) × (service ≡ service_of_many ask claims)
+    × HasText told ask.statements (λ text. NamesClaims text claims) × (service ≡ service_of_many ask claims)
 
 -- why no claims can be had: their file has a fault, or can't be loaded
 abbrev pub StatementsStop : ServeManyAsk → ShelfChange → Refusal → Type 0
@@ -52,4 +52,4 @@ pub record ServesMany {L : Type 0} (link_tells : L → LinkState) (ask : ServeMa
       ⊎ LacksClaims ask part disk door run
   pub done : (service : Service) → IsServiceOfMany run.shelf.old.told ask service → IsServable run.shelf.old.told disk.old service
       → ¬ NameFailed ask.statements run.shelf → ¬ HasServeFailed service disk door run
-      → EachNote part (IsWithHonestPeer link_tells run.shelf.old.told service) → IsDone run.status
+      → EachNote part (IsWithHonestProver link_tells run.shelf.old.told service) → IsDone run.status

@@ -2,11 +2,12 @@
 use Rattle.std.specs.Prelude.{◌≡◌, ◌⊎◌, ℕ, List, Bool, false, Option}
 use Rattle.statement_file.specs.Services.{service_asked}
 use Rattle.command_words.specs.BitWords.{Bits, BitsAsk}
-use Rattle.command_words.specs.Words.{Ask, rehearse, eval, deal, serve, serve_many, prove, generate, audit, migrate, status}
+use Rattle.command_words.specs.Words.{Ask}
+use Rattle.command_words.specs.declared.asks.Ask.TheVariants.{Rehearse as rehearse, Eval as eval, Deal as deal, Serve as serve, ServeMany as serve_many, Prove as prove, Generate as generate, Audit as audit, Migrate as migrate, Status as status}
 use Rattle.proof_audit.specs.AuditRuns.{Audits}
 use Rattle.file_commands.specs.DealRuns.{Deals}
 use Rattle.file_commands.specs.Effects.{OnlyLoads}
-use Rattle.file_commands.specs.GivenBits.{GivenStop, IsGiven, IsGivenName}
+use Rattle.file_commands.specs.GivenBits.{GivenStop, IsAskGiven, IsGivenName}
 use Rattle.file_commands.specs.EvalRuns.{Evaluates}
 use Rattle.file_commands.specs.MigrateRuns.{Migrates}
 use Rattle.zk_cli.specs.ProveRuns.{Proves}
@@ -68,7 +69,7 @@ pub record LacksBits {F L B D : Type 0} (ask : Ask BitsAsk) (run : Run F L B D) 
 -- with the bits that words and files give this holds; or a file gives none
 abbrev pub OfGiven : {F L B D : Type 0} → Ask BitsAsk → Run F L B D → (Ask Bits → Type 0) → Type 0
 OfGiven ask run Holds =
-    ((given : Ask Bits) × IsGiven run.effects.shelf.old.told ask given × Holds given) ⊎ LacksBits ask run
+    ((given : Ask Bits) × IsAskGiven run.effects.shelf.old.told ask given × Holds given) ⊎ LacksBits ask run
 
 abbrev pub MeetsGiven : {F L B D : Type 0} → Ask BitsAsk → List ℕ → DiskChange → Run F L B D → Type 0
 MeetsGiven ask seed disk run = OfGiven ask run (λ given. Meets given seed disk run)
@@ -78,10 +79,10 @@ DoesGiven ask seed disk run = OfGiven ask run (λ given. Promises given seed dis
 
 -- with these bits each accepted session shows its claim, and no unit was granted twice; or nothing is handed back
 abbrev pub ShowsGiven : {L : Type 0} → Option Files → Ask BitsAsk → Part L → Type 0
-ShowsGiven told ask part = ((given : Ask Bits) × IsGiven told ask given × ShowsClaims told given part) ⊎ (part ≡ Plain)
+ShowsGiven told ask part = ((given : Ask Bits) × IsAskGiven told ask given × ShowsClaims told given part) ⊎ (part ≡ Plain)
 
 abbrev pub GrantsOnceGiven : {L : Type 0} → Option Files → Ask BitsAsk → Part L → DiskChange → Type 0
-GrantsOnceGiven told ask part disk = ((given : Ask Bits) × IsGiven told ask given × GrantsOnceIn told given part disk) ⊎ (part ≡ Plain)
+GrantsOnceGiven told ask part disk = ((given : Ask Bits) × IsAskGiven told ask given × GrantsOnceIn told given part disk) ⊎ (part ≡ Plain)
 
 -- a service is asked for that says how it goes
 abbrev pub follows : {B : Type 0} → Ask B → Bool

@@ -6,7 +6,7 @@ use Rattle.zk_model.specs.Bits.{from_bit}
 use Rattle.zk_model.specs.Circuit.{Circuit, AreWireBits, Satisfies}
 use Rattle.zk_model.specs.Files.{ProverFile}
 use Rattle.zk_model.specs.HonestProver.{IsWitness}
-use Rattle.zk_model.specs.Twins.{HoldsTwin}
+use Rattle.lease_journal.specs.Twins.{HoldsTwin}
 use Rattle.zk_model.specs.declared.JournalKind.TheVariants.{Claims}
 use Rattle.zk_model.specs.ServedVerifier.{VerifierTask}
 use Rattle.zk_model.specs.Statement.{Statement}
@@ -19,7 +19,7 @@ use Rattle.zk_port.specs.Doors.{after_connect}
 use Rattle.zk_port.specs.Files.{Files}
 use Rattle.zk_port.specs.Links.{LinkState}
 use Rattle.lease_core.specs.Spans.{span}
-use Rattle.claim_store.specs.Causes.{AreFew}
+use Rattle.claim_store.specs.Causes.{AreFewClaims}
 use Rattle.claim_store.specs.Claims.{AreInUse, SaysClaims, first_met}
 use Rattle.dealer_files.specs.Faults.{IsDealtFile}
 use Rattle.session_core.specs.Jobs.{ProverJob, prover_from, prover_of}
@@ -80,7 +80,7 @@ pub record IsProveJob (told : Option Files) (ask : ProveAsk Bits) (circuit : Cir
 -- ---- why nothing is proved
 
 -- this is the first place where two lists of bits differ
-pub record DiffersFirst (place : ℕ) (some others : List Bool) : Type 0 where
+pub record BitDiffersFirst (place : ℕ) (some others : List Bool) : Type 0 where
   pub same : take place some ≡ take place others
   pub differs : get_or some place false ≢ get_or others place false
 
@@ -90,7 +90,7 @@ pub record GivesOther (circuit : Circuit) (ask : ProveAsk Bits) (output : ℕ) :
   pub gives : Satisfies circuit (ask.public ++ ask.bits) outputs
   pub only : AreOnlyOutputs circuit (ask.public ++ ask.bits) outputs
   pub count : length ask.outputs ≡ circuit.outputs
-  pub differs : DiffersFirst output outputs ask.outputs
+  pub differs : BitDiffersFirst output outputs ask.outputs
 
 -- Why a circuit has no bits of all wires that prove the claim, the first of these: it has fewer inputs than there are public bits, or
 -- another number of private inputs, or of outputs, or gives other outputs.
@@ -236,11 +236,11 @@ HasProveFailed ask disk door run = HasFailed (IsProveName ask) run ⊎ Rose disk
 pub record AreFree (total slots used : ℕ) (claims : List Span) (given : Grant) : Type 0 where
   pub within : given.start + given.count ≤ total
   pub apart : first_met (span given.start (given.start + given.count)) claims ≡ None
-  pub room : (used < slots) ⊎ AreFew slots claims (span given.start (given.start + given.count))
+  pub room : (used < slots) ⊎ AreFewClaims slots claims (span given.start (given.start + given.count))
 
 -- a session whose link did not fail, whose peer is an honest verifier of what was asked, and in which the units of the grant are free in the
 -- journal that the disk has
-pub record IsWithHonestPeer {L : Type 0} (link_tells : L → LinkState) (told : Option Files) (disk : DiskState) (ask : ProveAsk Bits)
+pub record IsWithHonestVerifier {L : Type 0} (link_tells : L → LinkState) (told : Option Files) (disk : DiskState) (ask : ProveAsk Bits)
     (note : ProverNote L) : Type 0 where
   pub calm : ¬ Rose 0 (link_tells note.link).faults
   pub honest : (circuit : Circuit) (job : ProverJob) → IsProveJob told ask circuit job
@@ -265,5 +265,5 @@ pub record Proves {L : Type 0} (link_tells : L → LinkState) (ask : ProveAsk Bi
   pub lines : ProveLines link_tells ask part disk door run
   pub means : ProveMeans ask part disk door run
   pub done : IsProvable run.shelf.old.told disk.old ask → ¬ HasProveFailed ask disk door run
-      → OfProved part (IsWithHonestPeer link_tells run.shelf.old.told disk.old ask) → IsDone run.status
+      → OfProved part (IsWithHonestVerifier link_tells run.shelf.old.told disk.old ask) → IsDone run.status
   pub kept : OnlyLoads (IsProveName ask) run.shelf

@@ -8,19 +8,19 @@ use Rattle.zk_model.specs.declared.limits.TheConstants.{MAX_UNITS}
 use Rattle.zk_port.specs.Files.{Files}
 use Rattle.command_words.specs.BitWords.{Bits}
 use Rattle.command_words.specs.BitWords.{bits_word}
-use Rattle.command_words.specs.Words.{RehearseAsk, rehearse_ask, GenerateAsk, generate_ask}
-use Rattle.session_rehearsal.specs.Rehearsals.{IsRehearsalOf, IsWrongLength, IsTooLarge, EndsWithVerdict}
+use Rattle.command_words.specs.Words.{RehearseAsk, rehearse_ask}
+use Rattle.command_words.specs.declared.asks.GenerateAsk.{GenerateAsk}
+use Rattle.session_rehearsal.specs.Rehearsals.{IsRehearsalOf, IsWrongLength, IsRehearsalTooLarge, EndsWithVerdict}
 use Rattle.session_rehearsal.specs.Rehearsals.{rehearsal_units}
 use Rattle.session_rehearsal.specs.declared.rehearsal.Rehearsal.{Rehearsal}
 use Rattle.file_commands.specs.Effects.{ShelfChange, SinkChange, Effects, OnlyLoads, IsName, HasFailed, SinkFailed}
-use Rattle.file_commands.specs.Stops.{PrintsMade, WritesAll, SaysStop, StatusMeans, HasCircuit, HasFewInputs, IsReady, CircuitStop}
+use Rattle.file_commands.specs.Stops.{PrintsMade, WritesAll, SaysStop, StatusMeans, HasCircuit, HasFewInputs, IsCircuitReady, CircuitStop}
 use Rattle.zk_cli.specs.declared.rehearse_command.RehearseWords.{RehearseWords}
 use Rattle.zk_cli.specs.declared.finish.Part.{Part}
 use Rattle.zk_cli.specs.declared.finish.Part.TheVariants.{Plain, Rehearsed}
 use Rattle.file_commands.specs.declared.refusal.Refusal.{Refusal}
 use Rattle.file_commands.specs.declared.refusal.Refusal.TheVariants.{ManyPublic, WrongBits, TooLarge, NoMemory}
-use Rattle.zk_cli.specs.declared.generate_command.GenerateWords.{GenerateWords}
-use Rattle.zk_model.specs.Generated.{generated_bits, generated_circuit}
+use Rattle.circuit_gen.specs.Generated.{generated_bits, generated_circuit}
 
 -- what is asked for
 abbrev pub rehearse_words : RehearseWords → RehearseAsk Bits
@@ -63,7 +63,7 @@ RehearseStop ask shelf (WrongBits need got) =
     HasCircuit shelf.old.told ask.circuit (λ circuit. (length ask.public ≤ circuit.inputs) × IsWrongLength circuit ask.public ask.bits need got)
 RehearseStop ask shelf (TooLarge need units) =
     HasCircuit shelf.old.told ask.circuit
-    (λ circuit. (length ask.public ≤ circuit.inputs) × IsTooLarge circuit ask.public ask.bits ask.kind ask.section need units)
+    (λ circuit. (length ask.public ≤ circuit.inputs) × IsRehearsalTooLarge circuit ask.public ask.bits ask.kind ask.section need units)
 RehearseStop ask shelf stop = CircuitStop ask.circuit shelf stop
 
 -- such a rehearsal is handed back, and its lines are written; or nothing is, and the line of a stop is, which has its cause
@@ -91,13 +91,10 @@ pub record Rehearses {L : Type 0} (ask : RehearseAsk Bits) (seed : List ℕ) (pa
   pub lines : SaysRehearsal (IsRehearsed run.shelf.old.told ask seed) (RehearseStop ask run.shelf) part run
   pub kept : OnlyLoads (IsName ask.circuit) run.shelf
   pub means : StatusMeans (Accepts part run.sink) (RehearseStop ask run.shelf) (IsName ask.circuit) run
-  pub done : (circuit : Circuit) → IsReady run.shelf.old.told ask.circuit (ask.public ++ ask.bits) circuit
+  pub done : (circuit : Circuit) → IsCircuitReady run.shelf.old.told ask.circuit (ask.public ++ ask.bits) circuit
       → ¬ HasFailed (IsName ask.circuit) run → AnswersFor (rehearsal_units circuit ask.public ask.kind ask.section) run.status
 
 -- ---- `rehearse --gates N --number S [--section G] [--extended]`: of a circuit that is drawn from a number, at its input bits
-
-abbrev pub generate_words : GenerateWords → GenerateAsk
-generate_words words = generate_ask words.gates words.number words.kind words.section
 
 -- this is a rehearsal of that circuit
 abbrev pub IsGenerated : GenerateAsk → List ℕ → Rehearsal → Type 0
@@ -105,7 +102,7 @@ IsGenerated ask seed r = IsRehearsalOf (generated_circuit ask.gates ask.number) 
 
 -- why there is none: it takes too many units, or memory is missing
 abbrev pub GenerateStop : GenerateAsk → Refusal → Type 0
-GenerateStop ask (TooLarge need units) = IsTooLarge (generated_circuit ask.gates ask.number) [] (generated_bits ask.number) ask.kind ask.section need units
+GenerateStop ask (TooLarge need units) = IsRehearsalTooLarge (generated_circuit ask.gates ask.number) [] (generated_bits ask.number) ask.kind ask.section need units
 GenerateStop ask NoMemory = Unit {0}
 GenerateStop ask stop = ⊥
 

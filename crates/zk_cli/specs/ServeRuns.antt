@@ -19,8 +19,8 @@ use Rattle.zk_port.specs.Links.{LinkState}
 use Rattle.dealer_files.specs.Faults.{IsDealtFile}
 use Rattle.session_core.specs.Jobs.{VerifierJob, VerifierJobs, AreVerifierJobs, IsTooLarge, all_jobs, noted_job, units_of_job}
 use Rattle.session_core.specs.declared.verifier_job.TooLarge as size
-use Rattle.session_pool.specs.Doors.{Takes}
-use Rattle.session_pool.specs.Notes.{AreApart, IsBetween, IsMarked, IsRefusedAmong, TellsMark, faults_met}
+use Rattle.session_pool.specs.Doors.{TakesLinks}
+use Rattle.session_pool.specs.Notes.{AreGrantsApart, IsBetween, IsMarked, IsRefusedAmong, TellsMark, faults_met}
 use Rattle.session_verifier.specs.Notes.{HasHonestCaller}
 use Rattle.session_verifier.specs.Outcomes.{lease_fault}
 use Rattle.session_verifier.specs.Sessions.{IsNote}
@@ -31,7 +31,7 @@ use Rattle.statement_file.specs.Claims.{NamedClaim}
 use Rattle.statement_file.specs.Services.{Service, service}
 use Rattle.file_commands.specs.Journals.{IsCeilingsFault, LeavesUnits, DiskChange, IsUntouched, JournalStop, KeepsCeiling, OnlyReads, own_journal}
 use Rattle.session_verifier.specs.NoteLines.{IsServedText, has_status, start_of}
-use Rattle.file_commands.specs.Effects.{ShelfChange, DoorChange, SomeFailed, SinkFailed, Effects, HasFailed, OthersStay, OnlyAsks, OnlyLoads, IsDone}
+use Rattle.file_commands.specs.Effects.{ShelfChange, DoorChange, SomeFailed, SinkFailed, Effects, HasFailed, OtherNamesStay, OnlyAsks, OnlyLoads, IsDone}
 use Rattle.zk_cli.specs.Runs.{EachNote}
 use Rattle.session_verifier.specs.ServiceLogs.{IsLogName, KeepsLogs, SaysService, no_faults}
 use Rattle.file_commands.specs.Stops.{ClaimStop, ListenStop, WritesAll, SaysStop, IsOfStop, HasText, HasCircuit, IsClaim, FileStop, IsVerifierFileAt}
@@ -73,8 +73,8 @@ pub record AreServeJobs (told : Option Files) (service : Service) (jobs : Verifi
   pub are : AreVerifierJobs jobs
 
 -- each session takes few units
-abbrev pub AreFew : VerifierJobs → Type 0
-AreFew jobs = All (λ job. units_of_job job ≤ MAX_UNITS) (all_jobs jobs)
+abbrev pub TakeFewUnits : VerifierJobs → Type 0
+TakeFewUnits jobs = All (λ job. units_of_job job ≤ MAX_UNITS) (all_jobs jobs)
 
 -- how many the session of a note takes
 abbrev pub units_of_note : {L : Type 0} → VerifierJobs → SessionNote L → ℕ
@@ -117,7 +117,7 @@ FitStop jobs stop = ⊥
 abbrev pub OpeningStop : Service → VerifierJobs → DiskChange → DoorChange → Refusal → Type 0
 OpeningStop service jobs disk door (TooLarge need units) =
     IsFirstTooLarge (all_jobs jobs) (record { need = need; units = units }) × IsUntouched disk × (door.new ≡ door.old)
-OpeningStop service jobs disk door stop = AreFew jobs × OnlyReads (own_journal service.file) disk
+OpeningStop service jobs disk door stop = TakeFewUnits jobs × OnlyReads (own_journal service.file) disk
     × ((JournalStop (IsCeilingsFault jobs.first.task.file.id jobs.first.task.file.params.total disk.old) disk stop
     × (door.new ≡ door.old)) ⊎ ListenStop service.address service.options.timeout door stop)
 
@@ -137,9 +137,9 @@ ServeStop service shelf disk door stop =
 -- There were as many workers as were asked for, each with a pass, and what these drew tiles from the base on.
 pub record LeadsJobs {L : Type 0} (link_tells : L → LinkState) (service : Service) (jobs : VerifierJobs) (notes : List (SessionNote L))
     (door_failed memory_failed : Bool) (disk : DiskChange) (door : DoorChange) : Type 0 where
-  pub few : AreFew jobs
+  pub few : TakeFewUnits jobs
   pub each : All (IsNote link_tells jobs) notes
-  pub taken : Takes service.options.sessions (length notes) door_failed memory_failed
+  pub taken : TakesLinks service.options.sessions (length notes) door_failed memory_failed
       (after_listen service.address service.options.timeout service.options.sessions door.old) door.new
   pub base : ℕ
   pub recovered : (bytes : List ℕ) → disk.old.content ≡ Some bytes
@@ -147,7 +147,7 @@ pub record LeadsJobs {L : Type 0} (link_tells : L → LinkState) (service : Serv
   pub ceiling : ℕ
   pub mark : ℕ
   pub kept : KeepsCeiling (own_journal service.file) jobs.first.task.file.id jobs.first.task.file.params.total base ceiling mark disk
-  pub apart : AllPairs (λ one other. AreApart one.granted other.granted) notes
+  pub apart : AllPairs (λ one other. AreGrantsApart one.granted other.granted) notes
   pub spans : All (λ note. IsBetween (units_of_note jobs note) base ceiling note.granted) notes
   pub within : All (λ note. IfSome note.granted (λ span. span.end ≤ jobs.first.task.file.params.total)) notes
   pub most : ceiling ≤ max base (ceiling_for jobs.first.task.file.params.total (base + sum_by (units_of_note jobs) notes))
@@ -228,7 +228,7 @@ pub record IsServable (told : Option Files) (disk : DiskState) (service : Servic
   pub claims : All (λ claim. HasCircuit told claim.circuit
       (λ circuit. (length claim.public ≤ circuit.inputs) × (length claim.outputs ≡ circuit.outputs))) service.claims
   pub file : HasText told service.file (IsDealtFile Verifier)
-  pub few : (jobs : VerifierJobs) → AreServeJobs told service jobs → AreFew jobs
+  pub few : (jobs : VerifierJobs) → AreServeJobs told service jobs → TakeFewUnits jobs
   pub room : (jobs : VerifierJobs) → AreServeJobs told service jobs
       → (most : ℕ) × All (λ job. units_of_job job ≤ most) (all_jobs jobs) × LeavesUnits jobs.first.task.file.id
       jobs.first.task.file.params.total (most * service.options.sessions) disk.content
@@ -239,7 +239,7 @@ HasServeFailed service disk door run =
     HasFailed (IsServeName service) run ⊎ Rose disk.old.faults disk.new.faults ⊎ DoorCallFailed door
 
 -- a session whose peer is an honest prover of one of the claims, the first that its hello is for, and whose link did not fail
-pub record IsWithHonestPeer {L : Type 0} (link_tells : L → LinkState) (told : Option Files) (service : Service)
+pub record IsWithHonestProver {L : Type 0} (link_tells : L → LinkState) (told : Option Files) (service : Service)
     (note : SessionNote L) : Type 0 where
   pub calm : ¬ Rose 0 (link_tells note.link).faults
   pub honest : (jobs : VerifierJobs) → AreServeJobs told service jobs
@@ -254,6 +254,6 @@ pub record Serves {L : Type 0} (link_tells : L → LinkState) (service : Service
   pub lines : ServeLines link_tells service part disk door run
   pub means : ServeMeans service part disk door run
   pub done : IsServable run.shelf.old.told disk.old service → ¬ HasServeFailed service disk door run
-      → EachNote part (IsWithHonestPeer link_tells run.shelf.old.told service) → IsDone run.status
-  pub others : OthersStay (IsLogName service.options.logs) run.shelf.old.told run.shelf.new.told
+      → EachNote part (IsWithHonestProver link_tells run.shelf.old.told service) → IsDone run.status
+  pub others : OtherNamesStay (IsLogName service.options.logs) run.shelf.old.told run.shelf.new.told
   pub asked : OnlyAsks (IsServeName service) run.shelf

@@ -17,17 +17,18 @@ use Rattle.zk_port.specs.Files.{Files}
 use Rattle.session_core.specs.Jobs.{VerifierJob, VerifierJobs, granted_from, units_of_job}
 use Rattle.lease_core.specs.Machine.{ceiling_for}
 use Rattle.lease_store.specs.Ceilings.{FindsCeiling, SaysCeiling}
-use Rattle.session_pool.specs.Notes.{AreApart, IsBetween}
+use Rattle.session_pool.specs.Notes.{AreGrantsApart, IsBetween}
 use Rattle.session_verifier.specs.declared.note.SessionNote.{SessionNote}
 use Rattle.session_verifier.specs.declared.note.VerifierOutcome.TheVariants as ended
 use Rattle.command_words.specs.BitWords.{Bits}
-use Rattle.command_words.specs.Words.{Ask, serve, serve_many}
+use Rattle.command_words.specs.Words.{Ask}
+use Rattle.command_words.specs.declared.asks.Ask.TheVariants.{Serve as serve, ServeMany as serve_many}
 use Rattle.statement_file.specs.Claims.{NamedClaim}
 use Rattle.statement_file.specs.Services.{Service, service_asked}
 use Rattle.file_commands.specs.Journals.{DiskChange}
 use Rattle.session_verifier.specs.NoteLines.{start_of}
 use Rattle.zk_cli.specs.ManyRuns.{IsServiceOfMany}
-use Rattle.zk_cli.specs.ServeRuns.{AreFew, AreServeJobs, IsServeJob, units_of_note}
+use Rattle.zk_cli.specs.ServeRuns.{TakeFewUnits, AreServeJobs, IsServeJob, units_of_note}
 use Rattle.zk_cli.specs.Runs.{OfNotes}
 use Rattle.zk_cli.specs.declared.finish.Part.{Part}
 
@@ -75,9 +76,9 @@ pub record GrantsOnce {L : Type 0} (told : Option Files) (service : Service) (no
   pub base : ℕ
   pub recovered : (bytes : List ℕ) → disk.old.content ≡ Some bytes
       → SaysCeiling jobs.first.task.file.id jobs.first.task.file.params.total base bytes
-  pub few : AreFew jobs
+  pub few : TakeFewUnits jobs
   pub ordered : IsNonDecreasingBy (λ note. start_of note.granted) notes
-  pub apart : AllPairs (λ one other. AreApart one.granted other.granted) notes
+  pub apart : AllPairs (λ one other. AreGrantsApart one.granted other.granted) notes
   pub ceiling : ℕ
   pub grows : base ≤ ceiling
   pub most : ceiling ≤ max base (ceiling_for jobs.first.task.file.params.total (base + sum_by (units_of_note jobs) notes))

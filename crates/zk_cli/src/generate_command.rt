@@ -2,42 +2,33 @@
 ghost use Rattle.std.specs.Prelude.{◌≡◌, ◌≤◌, IfOk, IfErr};
 ghost use Rattle.zk_model.specs.declared.limits.TheConstants.{MAX_GENERATED_GATES, MAX_SECTION_LENGTH};
 ghost use Rattle.zk_port.specs.Changes.{change};
-ghost use Rattle.zk_cli.specs.RehearseRuns.{Generates, GenerateStop, IsGenerated, generate_words};
+ghost use Rattle.zk_cli.specs.RehearseRuns.{Generates, GenerateStop, IsGenerated};
 ghost use Rattle.file_commands.specs.Effects.{effects};
 
 use crate::finish::{Ending, Part};
 use crate::rehearse_command::say_rehearsal;
 use bristol_reader::{ReadError, read};
 use circuit_gen::{Generated, generate};
+use command_words::GenerateAsk;
 use file_commands::{Refusal, say_stop};
 use session_rehearsal::{Rehearsal, RehearseFault, rehearse};
 use std::alloc::Global;
 use std::thread::Threads;
-use zk_model::Kind;
 use zk_port::{Shelf, Sink};
-
-/// What the words of the command name.
-#[derive(Clone, Copy, Debug)]
-pub struct GenerateWords {
-    pub gates: u32,
-    pub number: u64,
-    pub kind: Kind,
-    pub section: u32,
-}
 
 /// A rehearsal of the circuit that is drawn from the number, at its input bits.
 fn rehearse_generated<R: Threads + Sync>(
     rt: &R,
     alloc: Global,
-    words: &GenerateWords,
+    words: &GenerateAsk,
     seed: &[u8; 32],
 ) -> Result<Rehearsal, Refusal>
     requires some_gates { 1 ≤ words.now.gates }
     requires few_gates { words.now.gates ≤ MAX_GENERATED_GATES }
     requires at_least_one { 1 ≤ words.now.section }
     requires at_most { words.now.section ≤ MAX_SECTION_LENGTH }
-    ensures rehearsed { IfOk result (IsGenerated (generate_words words.now) seed.now) }
-    ensures stop { IfErr result (GenerateStop (generate_words words.now)) }
+    ensures rehearsed { IfOk result (IsGenerated words.now seed.now) }
+    ensures stop { IfErr result (GenerateStop words.now) }
 {
     let Generated { text, bits, .. } = generate(alloc, words.gates, words.number)?;
     let circuit = match read(alloc, &text) {
@@ -62,7 +53,7 @@ pub fn run_generate<R: Threads + Sync, F: Shelf, O: Sink, L: Drop>(
     alloc: Global,
     shelf: &mut F,
     out: &mut O,
-    words: &GenerateWords,
+    words: &GenerateAsk,
     seed: &[u8; 32],
 ) -> Ending<L>
     requires some_gates { 1 ≤ words.now.gates }
@@ -70,7 +61,7 @@ pub fn run_generate<R: Threads + Sync, F: Shelf, O: Sink, L: Drop>(
     requires at_least_one { 1 ≤ words.now.section }
     requires at_most { words.now.section ≤ MAX_SECTION_LENGTH }
     ensures kept { shelf.new ≡ shelf.old }
-    ensures generates { Generates (generate_words words.now) seed.now result.part
+    ensures generates { Generates words.now seed.now result.part
         (effects result.status (change (F.state shelf.old) (F.state shelf.new))
         (change (O.state out.old) (O.state out.new))) }
 {

@@ -2,8 +2,8 @@
 ghost use Rattle.std.specs.Prelude.{◌≡◌, false, IfOk, IfErr, OnOk};
 ghost use Rattle.zk_port.specs.Changes.{change};
 ghost use Rattle.command_words.specs.Commands.{AreServeLimits, named_options};
-ghost use Rattle.command_words.specs.Words.{serve_many};
-ghost use Rattle.statement_file.specs.Claims.{SaysClaims};
+ghost use Rattle.command_words.specs.declared.asks.Ask.TheVariants.{ServeMany as serve_many};
+ghost use Rattle.statement_file.specs.Claims.{NamesClaims};
 ghost use Rattle.file_commands.specs.Journals.{IsJournalDisk, disk_change};
 ghost use Rattle.file_commands.specs.Effects.{OnlyLoads, IsName, effects};
 ghost use Rattle.file_commands.specs.Stops.{HasText};
@@ -12,7 +12,7 @@ ghost use Rattle.zk_cli.specs.ServedNotes.{GrantsOnceIn, ShowsClaims};
 
 use crate::finish::{Finish, Part};
 use crate::serve_command::{ServiceWords, run_service};
-use command_words::ServedOptions;
+use command_words::ServeOptions;
 use file_commands::{Refusal, load_file, say_stop};
 use statement_file::{NamedClaim, StatementError, StatementFault, read_statements};
 use std::alloc::Global;
@@ -26,7 +26,7 @@ pub struct ManyWords<'a> {
     pub address: &'a str,
     pub file: &'a str,
     pub statements: &'a str,
-    pub options: &'a ServedOptions,
+    pub options: &'a ServeOptions<String>,
 }
 
 /// The claims that the file of statements names.
@@ -36,7 +36,7 @@ fn load_statements<F: Shelf>(
     words: &ManyWords<'_>,
 ) -> Result<Vec<NamedClaim>, Refusal>
     ensures claims { IfOk result (λ claims. HasText (F.state shelf.old).told words.now.statements.now
-        (λ text. SaysClaims text claims.items)) }
+        (λ text. NamesClaims text claims.items)) }
     ensures stop { IfErr result (StatementsStop (many_words words.now)
         (change (F.state shelf.old) (F.state shelf.new))) }
     ensures kept { OnlyLoads (IsName words.now.statements.now)

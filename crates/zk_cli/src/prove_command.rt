@@ -5,7 +5,7 @@ ghost use Rattle.zk_model.specs.declared.Side.TheVariants.{Prover};
 ghost use Rattle.zk_port.specs.Changes.{change};
 ghost use Rattle.file_commands.specs.Journals.{IsJournalDisk, disk_change};
 ghost use Rattle.zk_cli.specs.ProveRuns.{BeginningStop, HoldsAsked, HoldsSession, LacksProof, Proves, ProveStop, prove_words};
-ghost use Rattle.zk_cli.specs.ProveRuns.{DiffersFirst, HasWitness, IsProveName, WiresStop, WitnessStop};
+ghost use Rattle.zk_cli.specs.ProveRuns.{BitDiffersFirst, HasWitness, IsProveName, WiresStop, WitnessStop};
 ghost use Rattle.file_commands.specs.Stops.{connect_refusal, FileStop, IsProverFileAt};
 ghost use Rattle.file_commands.specs.Effects.{OnlyLoads, IsName, effects};
 
@@ -50,7 +50,7 @@ struct Witness {
 fn first_difference(some: &[bool], others: &[bool]) -> Option<usize>
     requires { length others.now ≡ length some.now }
     ensures same { result ≡ None → some.now ≡ others.now }
-    ensures first { IfSome result (λ place. DiffersFirst place some.now others.now) }
+    ensures first { IfSome result (λ place. BitDiffersFirst place some.now others.now) }
 {
     for place in 0..some.len() {
         if some[place] != others[place] {

@@ -10,12 +10,12 @@ ghost use Rattle.zk_cli.specs.Runs.{run_of};
 ghost use Rattle.file_commands.specs.Journals.{IsJournalDisk, disk_change};
 
 use crate::finish::{Ending, Finish, Part};
-use crate::generate_command::{GenerateWords, run_generate};
+use crate::generate_command::run_generate;
 use crate::many_command::{ManyWords, run_serve_many};
 use crate::prove_command::{ProveWords, run_prove};
 use crate::rehearse_command::{RehearseWords, run_rehearse};
 use crate::serve_command::{ServiceWords, run_service};
-use command_words::{BitsWord, Command, read_words};
+use command_words::{Ask as CommandAsk, BitsWord, Command, ServeAsk, read_words};
 use file_commands::{Refusal, read_given, run_deal, run_eval, run_migrate, say_memory, say_stop};
 use proof_audit::{AuditWords, run_audit};
 use statement_file::NamedClaim;
@@ -56,31 +56,25 @@ where
         → E.state notices.new ≡ E.state notices.old }
 {
     match command {
-        Command::Deal { name, params } => Finish {
-            status: run_deal(alloc, shelf, out, &name, &params, seed),
+        CommandAsk::Deal(ask) => Finish {
+            status: run_deal(alloc, shelf, out, &ask.name, &ask.params, seed),
             journal,
             door,
             part: Part::Plain,
         },
-        Command::Eval { circuit, bits } => Finish {
-            status: run_eval(alloc, shelf, out, &circuit, &bits),
+        CommandAsk::Eval(ask) => Finish {
+            status: run_eval(alloc, shelf, out, &ask.circuit, &ask.bits),
             journal,
             door,
             part: Part::Plain,
         },
-        Command::Rehearse {
-            circuit,
-            public,
-            bits,
-            kind,
-            section,
-        } => {
+        CommandAsk::Rehearse(ask) => {
             let named = RehearseWords {
-                circuit: &circuit,
-                public: &public,
-                bits: &bits,
-                kind,
-                section,
+                circuit: &ask.circuit,
+                public: &ask.public,
+                bits: &ask.bits,
+                kind: ask.kind,
+                section: ask.section,
             };
             let Ending { status, part } = run_rehearse(rt, alloc, shelf, out, &named, seed);
             Finish {
@@ -90,19 +84,8 @@ where
                 part,
             }
         }
-        Command::RehearseGenerated {
-            gates,
-            number,
-            kind,
-            section,
-        } => {
-            let named = GenerateWords {
-                gates,
-                number,
-                kind,
-                section,
-            };
-            let Ending { status, part } = run_generate(rt, alloc, shelf, out, &named, seed);
+        CommandAsk::Generate(ask) => {
+            let Ending { status, part } = run_generate(rt, alloc, shelf, out, &ask, seed);
             Finish {
                 status,
                 journal,
@@ -110,14 +93,15 @@ where
                 part,
             }
         }
-        Command::Serve {
-            address,
-            file,
-            circuit,
-            public,
-            outputs,
-            options,
-        } => {
+        CommandAsk::Serve(ask) => {
+            let ServeAsk {
+                address,
+                file,
+                circuit,
+                public,
+                outputs,
+                options,
+            } = ask;
             let claim = NamedClaim::new(circuit, public, outputs);
             let named = ServiceWords {
                 address: &address,
@@ -127,55 +111,35 @@ where
             };
             run_service(rt, alloc, shelf, journal, door, out, notices, &named)
         }
-        Command::ServeMany {
-            address,
-            file,
-            statements,
-            options,
-        } => {
+        CommandAsk::ServeMany(ask) => {
             let named = ManyWords {
-                address: &address,
-                file: &file,
-                statements: &statements,
-                options: &options,
+                address: &ask.address,
+                file: &ask.file,
+                statements: &ask.statements,
+                options: &ask.options,
             };
             run_serve_many(rt, alloc, shelf, journal, door, out, notices, &named)
         }
-        Command::Prove {
-            address,
-            file,
-            circuit,
-            public,
-            bits,
-            outputs,
-            timeout,
-        } => {
+        CommandAsk::Prove(ask) => {
             let named = ProveWords {
-                address: &address,
-                file: &file,
-                circuit: &circuit,
-                public: &public,
-                bits: &bits,
-                outputs: &outputs,
-                timeout,
+                address: &ask.address,
+                file: &ask.file,
+                circuit: &ask.circuit,
+                public: &ask.public,
+                bits: &ask.bits,
+                outputs: &ask.outputs,
+                timeout: ask.timeout,
             };
             run_prove(rt, alloc, shelf, journal, door, out, &named)
         }
-        Command::Audit {
-            circuit,
-            public,
-            outputs,
-            prover,
-            verifier,
-            log,
-        } => {
+        CommandAsk::Audit(ask) => {
             let named = AuditWords {
-                circuit: &circuit,
-                public: &public,
-                outputs: &outputs,
-                prover: &prover,
-                verifier: &verifier,
-                log: &log,
+                circuit: &ask.circuit,
+                public: &ask.public,
+                outputs: &ask.outputs,
+                prover: &ask.prover,
+                verifier: &ask.verifier,
+                log: &ask.log,
             };
             Finish {
                 status: run_audit(alloc, shelf, out, &named),
@@ -184,14 +148,14 @@ where
                 part: Part::Plain,
             }
         }
-        Command::Status { file, circuit } => {
+        CommandAsk::Status(ask) => {
             let StatusEnd { status, journal } = run_status(
                 alloc,
                 shelf,
                 journal,
                 out,
-                &file,
-                circuit.as_deref(),
+                &ask.file,
+                ask.circuit.as_deref(),
             );
             Finish {
                 status,
@@ -200,9 +164,9 @@ where
                 part: Part::Plain,
             }
         }
-        Command::Migrate { side, file } => {
+        CommandAsk::Migrate(ask) => {
             let mut journal = journal;
-            let status = run_migrate(alloc, shelf, &mut journal, out, side, &file);
+            let status = run_migrate(alloc, shelf, &mut journal, out, ask.side, &ask.file);
             Finish {
                 status,
                 journal,

@@ -4,8 +4,8 @@ ghost use Rattle.std.specs.Option.{option_map};
 ghost use Rattle.lease_store.specs.Ceilings.{HasCeilingHeader};
 ghost use Rattle.lease_store.specs.Desks.{Begins};
 ghost use Rattle.lease_store.specs.Leases.{IsPassAt};
-ghost use Rattle.session_pool.specs.Doors.{Takes};
-ghost use Rattle.session_pool.specs.Notes.{AreApart, IsLeft, IsNoteOf, IsRefusedAmong, IsUnused};
+ghost use Rattle.session_pool.specs.Doors.{TakesLinks};
+ghost use Rattle.session_pool.specs.Notes.{AreGrantsApart, IsLeft, IsNoteOf, IsRefusedAmong, IsUnused};
 ghost use Rattle.session_verifier.specs.Outcomes.{lease_fault};
 ghost use Rattle.session_verifier.specs.Sessions.{IsAnsweredNote};
 ghost use Rattle.zk_port.specs.Changes.{change};
@@ -16,7 +16,7 @@ ghost use Rattle.command_words.specs.Commands.{AreServeLimits, named_options};
 ghost use Rattle.file_commands.specs.Journals.{IsJournalDisk, disk_change};
 ghost use Rattle.file_commands.specs.Effects.{OnlyLoads, effects};
 ghost use Rattle.zk_cli.specs.Runs.{EachNote, OfNotes};
-ghost use Rattle.zk_cli.specs.ServeRuns.{AreFew, IsLoadedName, LeadsFiles, LeadsJobs};
+ghost use Rattle.zk_cli.specs.ServeRuns.{TakeFewUnits, IsLoadedName, LeadsFiles, LeadsJobs};
 ghost use Rattle.zk_cli.specs.ServeRuns.{OpeningStop, Serves, ServeStop, service_words, units_of_note};
 ghost use Rattle.zk_cli.specs.ServedNotes.{GrantsOnce, ShowsClaim};
 
@@ -26,7 +26,7 @@ use crate::follow::{Unheard, say_start};
 use crate::serve_jobs::{fit_jobs, most_units, statements_of};
 use crate::watched::{Watched, serve_watched};
 use bristol_reader::one_circuit;
-use command_words::ServedOptions;
+use command_words::ServeOptions;
 use file_commands::{Refusal, open_ceilings, say_stop};
 use lease_store::{LeaseParts, ceilings_start_again};
 use lease_words::Pass;
@@ -47,7 +47,7 @@ pub struct ServiceWords<'a> {
     pub address: &'a str,
     pub file: &'a str,
     pub claims: &'a [NamedClaim],
-    pub options: &'a ServedOptions,
+    pub options: &'a ServeOptions<String>,
 }
 
 /// Why nothing is served, with the disk and the door as they are then.
@@ -73,7 +73,7 @@ fn lead_sessions<R, F, E, D, B>(
     jobs: &VerifierJobs<'_>,
     shelf: &mut F,
     notices: &mut E,
-    options: &ServedOptions,
+    options: &ServeOptions<String>,
     parts: LeaseParts<B>,
     passes: Vec<Pass>,
     door: D,
@@ -93,9 +93,9 @@ where
         → HasCeilingHeader jobs.now.first.task.file.id parts.total bytes }
     requires begins { Begins (B.state parts.disk) (B.state parts.disk) }
     ensures notes { All (IsNoteOf (IsAnsweredNote D.Link.state jobs.now)) result.served.notes.items }
-    ensures taken { Takes options.now.sessions (length result.served.notes.items) result.served.door_failed
+    ensures taken { TakesLinks options.now.sessions (length result.served.notes.items) result.served.door_failed
         result.served.memory_failed (D.state door) (D.state result.served.door) }
-    ensures apart { AllPairs (λ m n. AreApart m.granted n.granted) result.served.notes.items }
+    ensures apart { AllPairs (λ m n. AreGrantsApart m.granted n.granted) result.served.notes.items }
     ensures left { IsLeft (All IsUnused passes.items) (B.state parts.disk) (B.state result.served.disk)
         jobs.now.first.task.file.id parts.base parts.total parts.passes (units_of_note jobs.now)
         (λ n. n.granted) (λ n. lease_fault n.outcome) result.served.notes.items }
@@ -138,7 +138,7 @@ where
     B: Disk + Drop + Send,
     requires disk { IsJournalDisk (B.state journal) }
     requires limits { AreServeLimits (named_options words.now.options.now) }
-    requires few { AreFew jobs.now }
+    requires few { TakeFewUnits jobs.now }
     ensures leads { IfOk result (λ led. LeadsJobs D.Link.state (service_words words.now) jobs.now
         led.served.notes.items led.served.door_failed led.served.memory_failed
         (disk_change (B.state journal) (B.state led.served.disk))

@@ -5,14 +5,14 @@ ghost use Rattle.zk_port.specs.Changes.{change};
 ghost use Rattle.lease_store.specs.Ceilings.{HasCeilingHeader};
 ghost use Rattle.lease_store.specs.Desks.{Begins};
 ghost use Rattle.lease_store.specs.Leases.{IsPassAt};
-ghost use Rattle.session_pool.specs.Doors.{Takes};
-ghost use Rattle.session_pool.specs.Notes.{AreApart, IsLeft, IsNoteOf, IsRefusedAmong, IsUnused};
+ghost use Rattle.session_pool.specs.Doors.{TakesLinks};
+ghost use Rattle.session_pool.specs.Notes.{AreGrantsApart, IsLeft, IsNoteOf, IsRefusedAmong, IsUnused};
 ghost use Rattle.session_verifier.specs.Outcomes.{lease_fault};
 ghost use Rattle.session_verifier.specs.ServiceLogs.{TriesLogs};
 ghost use Rattle.session_verifier.specs.Sessions.{IsAnsweredNote};
 ghost use Rattle.zk_cli.specs.ServeRuns.{units_of_note};
 
-use command_words::ServedOptions;
+use command_words::ServeOptions;
 use lease_store::LeaseParts;
 use lease_words::Pass;
 use session_core::VerifierJobs;
@@ -53,7 +53,7 @@ pub fn serve_watched<'a, F, E, W, D, B, R>(
     alloc: Global,
     jobs: &VerifierJobs<'_>,
     loan: LogLoan<'a, F, E>,
-    options: &'a ServedOptions,
+    options: &'a ServeOptions<String>,
     parts: LeaseParts<B>,
     passes: Vec<Pass>,
     door: D,
@@ -80,9 +80,9 @@ where
         → HasCeilingHeader jobs.now.first.task.file.id parts.total bytes }
     requires begins { Begins (B.state parts.disk) (B.state parts.disk) }
     ensures notes { All (IsNoteOf (IsAnsweredNote D.Link.state jobs.now)) result.served.notes.items }
-    ensures taken { Takes options.now.sessions (length result.served.notes.items) result.served.door_failed
+    ensures taken { TakesLinks options.now.sessions (length result.served.notes.items) result.served.door_failed
         result.served.memory_failed (D.state door) (D.state result.served.door) }
-    ensures apart { AllPairs (λ m n. AreApart m.granted n.granted) result.served.notes.items }
+    ensures apart { AllPairs (λ m n. AreGrantsApart m.granted n.granted) result.served.notes.items }
     ensures left { IsLeft (All IsUnused passes.items) (B.state parts.disk) (B.state result.served.disk)
         jobs.now.first.task.file.id parts.base parts.total parts.passes (units_of_note jobs.now)
         (λ n. n.granted) (λ n. lease_fault n.outcome) result.served.notes.items }

@@ -7,8 +7,7 @@
 
 ghost use Rattle.std.specs.Prelude.{◌≡◌, ◌+◌, ◌*◌, ◌^◌, ◌<◌, length};
 ghost use Rattle.rand_chacha.specs.ChaCha.{word_at};
-ghost use Rattle.zk_model.specs.Coins.{coin_word, seed16};
-ghost use Rattle.zk_model.specs.Dealing.{stream_bytes};
+ghost use Rattle.zk_model.specs.Coins.{coin_word, seed16, stream_bytes};
 ghost use Rattle.zk_coins.specs.Words.{coin_words};
 
 use rand_chacha::ChaCha20Rng;

@@ -1,10 +1,7 @@
--- Frames and journals at worked examples, by computation.
+-- Frames at worked examples, by computation.
 use Rattle.std.proofs.Common.{◌≡◌, ◌++◌, true, [], ◌∷◌, flat_map, refl, replicate, length, take}
-use Rattle.std.specs.Prelude.{Some, None, codes}
+use Rattle.std.specs.Prelude.{Some, None}
 use Rattle.zk_model.specs.Transcript.{Hello, Transcript, hello_frame, ask_frame, reply_frame, challenge_frame, corrections_frame, spelling, setup_turns, session_turns, turn_bytes}
-use Rattle.zk_model.specs.Journals.{ceiling_slots, claim_slots}
-use Rattle.zk_model.specs.Twins.{blank_twin_bytes, twin_ceiling_slots}
-use Rattle.zk_model.specs.declared.JournalKind.TheVariants.{Ceilings}
 
 challenge_of_two : challenge_frame 2 ≡ 6 ∷ 8 ∷ 0 ∷ 0 ∷ 0 ∷ 2 ∷ 0 ∷ 0 ∷ 0 ∷ 0 ∷ 0 ∷ 0 ∷ 0 ∷ []
 challenge_of_two = refl
@@ -58,22 +55,3 @@ and_lengths = refl
 and_sides : length (flat_map (λ turn. turn.0) (session_turns and_session)) ∷ length (flat_map (λ turn. turn.1) (session_turns and_session)) ∷ [] ≡ 165 ∷ 44 ∷ []
 unfolding and_session
 and_sides = refl
-
--- a verifier's journal of 100 units, in which nothing is written yet: areas of 7 slots, the first with generation 1 and an open head
-ceilings_of_hundred : twin_ceiling_slots 100 ≡ 7
-ceilings_of_hundred = refl
-
-blank_length : length (blank_twin_bytes Ceilings (replicate 32 9) 100 (twin_ceiling_slots 100)) ≡ 576
-blank_length = refl
-
-blank_header : take 96 (blank_twin_bytes Ceilings (replicate 32 9) 100 7)
-    ≡ codes "WQSJRNL1" ++ (3 ∷ replicate 7 0) ++ (100 ∷ replicate 7 0) ++ (7 ∷ replicate 7 0) ++ replicate 32 9 ++ (1 ∷ replicate 30 0) ++ (90 ∷ [])
-blank_header = refl
-
--- a multiple of 16 needs no slot more, and a unit beyond it does
-ceilings_at_the_edge : ceiling_slots 1 ∷ ceiling_slots 16 ∷ ceiling_slots 17 ∷ ceiling_slots 160 ∷ [] ≡ 1 ∷ 1 ∷ 2 ∷ 10 ∷ []
-ceilings_at_the_edge = refl
-
--- a prover's journal has a slot for each unit, up to 4,096
-claims_at_the_edge : claim_slots 1 ∷ claim_slots 4096 ∷ claim_slots 4097 ∷ [] ≡ 1 ∷ 4096 ∷ 4096 ∷ []
-claims_at_the_edge = refl

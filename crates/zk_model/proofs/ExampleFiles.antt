@@ -3,9 +3,8 @@ use Rattle.std.proofs.Common.{◌≡◌, ℕ, ◌^◌, ◌<◌, ◌≤◌, List,
 use Rattle.std.specs.List.{AllByRecursion, AllZip}
 use Rattle.std.proofs.lemmas.List.Elements.{All-from_recursion}
 use Rattle.zk_model.proofs.ExampleTools.{bytes_of}
-use Rattle.zk_model.specs.Dealing.{dealt_version}
 use Rattle.zk_model.specs.Files.{ProverUnit, VerifierUnit, ProverFile, VerifierFile, AreParams, IsCodeSeed, IsProverUnit, IsVerifierUnit, IsProverFile, IsVerifierFile, UnitsMatch, AreDealt}
-use Rattle.zk_model.specs.declared.FileVersion.TheVariants.{First, Second}
+use Rattle.zk_model.specs.declared.FileVersion.TheVariants.{First}
 use Rattle.zk_model.specs.declared.Kind.TheVariants.{Direct}
 use Rattle.zk_model.specs.declared.Params.{Params}
 
@@ -53,7 +52,3 @@ is_verifier_file params seed units fit most seeded count each = record {
 pub are_dealt : (params : Params) (coins seed : ℕ) (units : List ProverUnit) (others : List VerifierUnit) → AllZip (UnitsMatch 5) units others
     → AreDealt (prover_file_of params coins seed units) (verifier_file_of params seed others)
 are_dealt params coins seed units others match = record { id = refl; params = refl; code_seed = refl; key = λ e. cc; units = match }
-
--- 65,535 units are dealt in the first version, and one more in the second
-versions_dealt : dealt_version 65535 ∷ dealt_version 65536 ∷ [] ≡ First ∷ Second ∷ []
-versions_dealt = refl

@@ -7,7 +7,6 @@ pub mod ExampleExtensions
 pub mod ExampleBytes
 pub mod ExamplesHashed
 pub mod ExampleTexts
-pub mod ExampleGenerated
 pub mod ExampleSession
 pub mod ExampleBothEnds
 pub mod ExampleProducts
@@ -17,7 +16,6 @@ pub mod ExampleExtended
 pub mod ExampleRound
 pub mod ExampleFound
 pub mod ExampleExtendedSession
-pub mod ExampleFaults
 pub mod ExampleAudit
 pub mod SetWires
 pub mod Octets

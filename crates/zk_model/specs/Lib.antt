@@ -9,8 +9,6 @@ pub mod Field
 pub mod Polynomial
 pub mod Circuit
 pub mod Bristol
-pub mod TextFaults
-pub mod Generated
 pub mod Program
 pub mod Slots
 pub mod Boolean
@@ -22,12 +20,6 @@ pub mod Extension
 pub mod Statement
 pub mod Files
 pub mod FileBytes
-pub mod FileFaults
-pub mod Journals
-pub mod Twins
-pub mod ClaimedRanges
-pub mod Migrations
-pub mod Dealing
 pub mod Transcript
 pub mod Frames
 pub mod Correlations

@@ -4,7 +4,7 @@ use Rattle.std.specs.List.{range_with_len}
 use Rattle.std.proofs.lemmas.List.{take_rest}
 use Rattle.zk_model.specs.Bristol.{IsText}
 use Rattle.zk_model.specs.Circuit.{MeetsGate, AreWireBits, output_wire}
-use Rattle.zk_model.specs.Generated.{generated_text, state_after, gate_line, heading, generated_bits, generated_circuit, generated_gate}
+use Rattle.circuit_gen.specs.Generated.{generated_text, state_after, gate_line, heading, generated_bits, generated_circuit, generated_gate}
 use Rattle.circuit_gen.proofs.Drawing.{gate_drawn, generated_rows}
 use Rattle.circuit_gen.proofs.Texts.{generated_says, length-generated_bits, more_lines}
 use Rattle.circuit_gen.proofs.WireBits.{AreBitsSoFar, bits_first, bits_more, all_bits}

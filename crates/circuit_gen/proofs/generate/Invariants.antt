@@ -1,6 +1,6 @@
 use Rattle.std.proofs.Common.{◌≡◌, ◌+◌, ◌*◌, ◌++◌, map, flat_map}
 use Rattle.std.specs.List.{range_with_len}
-use Rattle.zk_model.specs.Generated.{state_after, gate_line, heading, generated_bits, generated_circuit, generated_gate}
+use Rattle.circuit_gen.specs.Generated.{state_after, gate_line, heading, generated_bits, generated_circuit, generated_gate}
 use Rattle.circuit_gen.proofs.WireBits.{AreBitsSoFar}
 use Rattle.circuit_gen.proofs.generate.Given as goal
 

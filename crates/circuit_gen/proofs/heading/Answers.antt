@@ -2,7 +2,7 @@ use Rattle.std.proofs.Common.{◌≡◌, ◌∙◌, ◌+◌, ◌++◌, [], ◌�
 use Rattle.std.specs.Prelude.{codes}
 use Rattle.std.specs.Fmt.{decimal}
 use Rattle.std.proofs.lemmas.List.FromFn.{length-map-range_with_len}
-use Rattle.zk_model.specs.Generated.{line, heading, generated_gate}
+use Rattle.circuit_gen.specs.Generated.{line, heading, generated_gate}
 use Rattle.circuit_gen.proofs.heading.Goals as goal
 
 -- three lines in one

@@ -1,7 +1,7 @@
 // New journals of ceilings, the disks in memory that they stand on, and stores that start there.
 ghost use Rattle.std.specs.Prelude.{◌≡◌, ◌≤◌, ◌<◌, ◌^◌, ℕ, List, Some, None, length, All, IfOk};
 ghost use Rattle.zk_port.specs.Disks.{Stays};
-ghost use Rattle.zk_model.specs.Twins.{twin_begin, twin_ceiling_slots, twin_slots_at};
+ghost use Rattle.lease_journal.specs.Twins.{twin_begin, twin_ceiling_slots, twin_slots_at};
 ghost use Rattle.zk_model.specs.declared.JournalKind.TheVariants.{Ceilings};
 ghost use Rattle.lease_store.specs.Ceilings.{HasCeilingHeader, HasCeilingRoom};
 ghost use Rattle.twin_journal.specs.Starts.{AreTidy};

@@ -1,6 +1,6 @@
 // New journals of two areas, and the disks in memory that they stand on.
 ghost use Rattle.std.specs.Prelude.{◌≡◌, ◌≤◌, ◌+◌, ◌*◌, ℕ, List, Some, None, IfOk};
-ghost use Rattle.zk_model.specs.Twins.{twin_begin, twin_length, twin_slots_at};
+ghost use Rattle.lease_journal.specs.Twins.{twin_begin, twin_length, twin_slots_at};
 ghost use Rattle.zk_model.specs.declared.JournalKind.TheVariants.{Claims};
 ghost use Rattle.twin_journal.specs.Starts.{AreTidy, SaysTwinSlots};
 

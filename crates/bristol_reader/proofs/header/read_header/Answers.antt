@@ -1,5 +1,5 @@
 use Rattle.bristol_reader.specs.Wants.{IsFaultBehind}
-use Rattle.zk_model.specs.TextFaults.{HeaderWants}
+use Rattle.bristol_reader.specs.TextFaults.{HeaderWants}
 use Rattle.bristol_reader.proofs.Exits.{raised}
 use Rattle.bristol_reader.proofs.Headings.{gates_fault, wires_fault, inputs_fault, outputs_fault, header_taken}
 use Rattle.bristol_reader.proofs.header.read_header.Goals as goal

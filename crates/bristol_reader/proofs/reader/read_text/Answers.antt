@@ -1,5 +1,5 @@
 use Rattle.std.proofs.Common.{subst}
-use Rattle.zk_model.specs.TextFaults.{HeaderWants}
+use Rattle.bristol_reader.specs.TextFaults.{HeaderWants}
 use Rattle.bristol_reader.specs.declared.fault.ReadError.TheVariants.{Fault}
 use Rattle.bristol_reader.specs.Reads.{TextCause}
 use Rattle.bristol_reader.specs.Wants.{IsFaultBehind}

@@ -1,5 +1,5 @@
 use Rattle.std.proofs.Common.{◌≡◌, ℕ, true, false, ap, sym, ◌∙◌, arith, rules}
-use Rattle.zk_model.specs.Twins.{area_at}
+use Rattle.lease_journal.specs.Twins.{area_at}
 use Rattle.twin_journal.specs.States.{TwinState}
 use Rattle.lease_journal.proofs.Moments.{stays_then}
 use Rattle.claim_store.specs.Claims.{claim_at, first_claims, may_follow}

@@ -1,7 +1,7 @@
 use Rattle.std.proofs.Common.{◌≡◌, ◌≤◌, ℕ, List, length, Some}
 use Rattle.zk_port.specs.Disks.{Stays}
-use Rattle.zk_model.specs.ClaimedRanges.{RiseFrom}
-use Rattle.zk_model.specs.Twins.{area_at}
+use Rattle.claim_store.specs.ClaimedRanges.{RiseFrom}
+use Rattle.lease_journal.specs.Twins.{area_at}
 use Rattle.claim_store.specs.Claims.{AreClaims}
 use Rattle.claim_store.proofs.SlotBySlot.{AreReadTo}
 use Rattle.claim_store.proofs.reading.read_claims.Given as goal

@@ -1,5 +1,5 @@
 use Rattle.std.proofs.Common.{◌∙◌, sym}
-use Rattle.command_words.proofs.Unasked.{help_of_name}
+use Rattle.command_words.proofs.Named.{help_of_name}
 use Rattle.command_words.proofs.help.help_text.Goals as goal
 
 pub returns-in-len2-clause-valid : goal.returns-in-len2-clause-valid

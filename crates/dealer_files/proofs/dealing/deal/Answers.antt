@@ -1,5 +1,5 @@
 use Rattle.std.proofs.Common.{rules, ap, ◌∙◌}
-use Rattle.zk_model.specs.Dealing.{dealt_pads}
+use Rattle.dealer_files.specs.Dealing.{dealt_pads}
 use Rattle.dealer_files.specs.Flat.{unit_by_unit}
 use Rattle.dealer_files.proofs.DealtPairs.{are_dealt}
 use Rattle.dealer_files.proofs.DealtFiles.{prover_file_is, verifier_file_is}

@@ -1,6 +1,6 @@
 use Rattle.std.proofs.Common.{◌≡◌, flat_map}
 use Rattle.std.specs.List.{range_with_len}
-use Rattle.zk_model.specs.Dealing.{dealt_pairs}
+use Rattle.dealer_files.specs.Dealing.{dealt_pairs}
 use Rattle.dealer_files.proofs.dealing.deal_pairs.Given as goal
 
 abbrev pub invariant-loop-unit : goal.invariant-loop-unit

@@ -1,5 +1,5 @@
 use Rattle.std.proofs.Common.{◌≡◌, ◌*◌, length, arith}
-use Rattle.zk_model.specs.Dealing.{dealt_pads, dealt_transfer}
+use Rattle.dealer_files.specs.Dealing.{dealt_pads, dealt_transfer}
 use Rattle.dealer_files.specs.Flat.{transfers_per_unit}
 use Rattle.dealer_files.specs.Words.{word_pads, word_transfer}
 use Rattle.dealer_files.proofs.DealtLists.{pads_same, transfer_same, transfers_more}

@@ -1,6 +1,6 @@
 use Rattle.std.proofs.Common.{◌≡◌, map, flat_map}
 use Rattle.std.specs.List.{range_with_len}
-use Rattle.zk_model.specs.Dealing.{dealt_pads, dealt_transfer}
+use Rattle.dealer_files.specs.Dealing.{dealt_pads, dealt_transfer}
 use Rattle.dealer_files.specs.Flat.{transfers_per_unit}
 use Rattle.dealer_files.proofs.dealing.deal_transfers.Given as goal
 

@@ -1,5 +1,5 @@
 use Rattle.std.proofs.Common.{ℕ, List, sym, ap, ◌∙◌, subst}
-use Rattle.zk_model.specs.Twins.{HoldsTwin}
+use Rattle.lease_journal.specs.Twins.{HoldsTwin}
 use Rattle.zk_model.specs.declared.JournalKind.TheVariants.{Claims}
 use Rattle.zk_port.specs.Counts.{Rose}
 use Rattle.claim_store.specs.Causes.{StoreCause}

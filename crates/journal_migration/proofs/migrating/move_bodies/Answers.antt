@@ -1,8 +1,8 @@
 use Rattle.std.proofs.Common.{◌≡◌, ◌+◌, ℕ, List, Some, true, inr, refl, sym, subst, rules}
 use Rattle.zk_port.specs.Images.{HasDiskRoom}
-use Rattle.zk_model.specs.Journals.{first_bodies}
-use Rattle.zk_model.specs.Migrations.{SaysOneArea, one_area_end}
-use Rattle.zk_model.specs.Twins.{are_twin_slots, twin_length}
+use Rattle.lease_journal.specs.Journals.{first_bodies}
+use Rattle.journal_migration.specs.Migrations.{SaysOneArea, one_area_end}
+use Rattle.lease_journal.specs.Twins.{are_twin_slots, twin_length}
 use Rattle.journal_migration.specs.Migrating.{EndsAt, MovesSafely}
 use Rattle.journal_migration.proofs.BehindIt.{is_done, moves_on, only_of, says_one_area}
 use Rattle.journal_migration.proofs.Onward.{slots_fit}

@@ -1,8 +1,8 @@
 use Rattle.std.proofs.Common.{◌≡◌, ℕ, List, drop, length, ap, sym, ◌∙◌, subst, arith, rules}
 use Rattle.std.proofs.lemmas.List.{length-map}
-use Rattle.zk_model.specs.ClaimedRanges.{AreMerged, claims_of}
-use Rattle.zk_model.specs.Journals.{AreSound, first_bodies}
-use Rattle.zk_model.specs.Migrations.{SaysTheSame, moved_slots}
+use Rattle.claim_store.specs.ClaimedRanges.{AreMerged, claims_of}
+use Rattle.lease_journal.specs.Journals.{AreSound, first_bodies}
+use Rattle.journal_migration.specs.Migrations.{SaysTheSame, moved_slots}
 use Rattle.zk_model.specs.declared.JournalKind.TheVariants.{Claims}
 use Rattle.zk_model.specs.declared.Span.{Span}
 use Rattle.claim_store.specs.Claims.{bodies_of}

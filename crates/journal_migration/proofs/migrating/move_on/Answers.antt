@@ -1,6 +1,6 @@
 use Rattle.std.proofs.Common.{◌≡◌, ℕ, List, ap, sym, ◌∙◌, subst, option_to_list}
-use Rattle.zk_model.specs.Journals.{first_bodies}
-use Rattle.zk_model.specs.Migrations.{SaysTheSame}
+use Rattle.lease_journal.specs.Journals.{first_bodies}
+use Rattle.journal_migration.specs.Migrations.{SaysTheSame}
 use Rattle.zk_model.specs.declared.JournalKind.TheVariants.{Ceilings}
 use Rattle.journal_migration.specs.Migrating.{next_ceiling}
 use Rattle.journal_migration.proofs.BehindIt.{same_ceiling}

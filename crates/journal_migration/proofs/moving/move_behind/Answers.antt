@@ -1,7 +1,7 @@
 use Rattle.std.proofs.Common.{◌≡◌, ℕ, List, [], ◌∷◌, IfSome, subst, arith}
 use Rattle.zk_port.specs.Disks.{LeavesOnly}
-use Rattle.zk_model.specs.Migrations.{SaysEither, one_area_end}
-use Rattle.zk_model.specs.Twins.{twin_length}
+use Rattle.journal_migration.specs.Migrations.{SaysEither, one_area_end}
+use Rattle.lease_journal.specs.Twins.{twin_length}
 use Rattle.lease_journal.specs.Keeps.{ChangesAt}
 use Rattle.lease_journal.proofs.Moments.{then_leaves}
 use Rattle.twin_journal.specs.Laying.{IsLaid}

@@ -1,6 +1,6 @@
 use Rattle.std.proofs.Common.{◌≡◌, ◌≤◌, ℕ, List, length, Some}
 use Rattle.zk_port.specs.Disks.{Stays}
-use Rattle.zk_model.specs.ClaimedRanges.{RiseFrom}
+use Rattle.claim_store.specs.ClaimedRanges.{RiseFrom}
 use Rattle.claim_store.specs.Claims.{AreClaims}
 use Rattle.claim_store.proofs.SlotBySlot.{AreReadTo}
 use Rattle.journal_migration.proofs.reading.read_claims.Given as goal

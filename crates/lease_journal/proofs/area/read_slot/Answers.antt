@@ -1,5 +1,5 @@
 use Rattle.std.proofs.Common.{◌≡◌, ◌≤◌, ◌+◌, ◌-◌, ◌*◌, ℕ, length, get_or, take, drop, min, sym, ◌∙◌, arith, rules}
-use Rattle.zk_model.specs.Journals.{number_at}
+use Rattle.lease_journal.specs.Journals.{number_at}
 use Rattle.lease_journal.proofs.Reading.{is_read, read_byte, read_body_at}
 use Rattle.lease_journal.proofs.area.read_slot.Goals as goal
 

@@ -1,5 +1,5 @@
 use Rattle.std.proofs.Common.{◌≡◌, ◌<◌, IfSome, ◌+◌, ap, sym, ◌∙◌, subst, arith}
-use Rattle.zk_model.specs.Journals.{keeps_rule}
+use Rattle.lease_journal.specs.Journals.{keeps_rule}
 use Rattle.lease_journal.specs.Scans.{next_bad}
 use Rattle.lease_journal.specs.Causes.{IsScanned, SlotSays}
 use Rattle.lease_journal.proofs.Scanning.{next_starts, scan_more, scan_cause, used_to_closed, used_to_end, bad_before, none_bad, read_more}

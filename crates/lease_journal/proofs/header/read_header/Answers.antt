@@ -1,6 +1,6 @@
 use Rattle.std.proofs.Common.{ap, ◌∙◌, arith}
-use Rattle.zk_model.specs.Journals.{are_slots}
-use Rattle.zk_model.specs.Twins.{IsFirstMovedWrong}
+use Rattle.lease_journal.specs.Journals.{are_slots}
+use Rattle.lease_journal.specs.Twins.{IsFirstMovedWrong}
 use Rattle.lease_journal.proofs.Headers.{cut_header, slots_read}
 use Rattle.lease_journal.proofs.MovedHeaders.{few_moved, migrated_read, moved_header, moved_wrong, right_moved}
 use Rattle.lease_journal.proofs.header.read_header.Goals as goal

@@ -1,5 +1,5 @@
 use Rattle.std.proofs.Common.{sym, ◌∙◌, subst}
-use Rattle.zk_model.specs.Journals.{IsFirstBad, AreUsed}
+use Rattle.lease_journal.specs.Journals.{IsFirstBad, AreUsed}
 use Rattle.lease_journal.proofs.Scanning.{not_cut}
 use Rattle.lease_journal.proofs.Moments.{stays_then}
 use Rattle.lease_journal.proofs.one_area.read_one_area.Goals as goal

@@ -1,5 +1,5 @@
 use Rattle.std.proofs.Common.{◌∙◌, ℕ, List, ap, sym, subst, refl}
-use Rattle.zk_model.specs.Twins.{blank_twin_bytes, twin_begin, twin_slots_at}
+use Rattle.lease_journal.specs.Twins.{blank_twin_bytes, twin_begin, twin_slots_at}
 use Rattle.twin_journal.specs.Starts.{AreTidy}
 use Rattle.program_tests.specs.declared.vectors.TheConstants.{FILE_ID}
 use Rattle.program_tests.proofs.PlainFiles.{begins_first, one_fits}

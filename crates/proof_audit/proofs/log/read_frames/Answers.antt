@@ -3,7 +3,7 @@ use Rattle.std.proofs.lemmas.Result.{err_from_is_err_and}
 use Rattle.zk_model.specs.Frames.{frame_spelling}
 use Rattle.proof_frames.specs.Frames.{frame_value}
 use Rattle.proof_audit.specs.Reading.{TakesFrame}
-use Rattle.proof_audit.specs.Sessions.{IsUnderWay, IsFaultOf}
+use Rattle.proof_audit.specs.Sessions.{IsLogUnderWay, IsFaultOf}
 use Rattle.proof_audit.proofs.UnderWay.{goes_on, ends_early, reading_fault, wrong_fault, behind_fault, some_left}
 use Rattle.proof_audit.proofs.log.read_frames.Goals as goal
 
@@ -25,7 +25,7 @@ advance-requires-clause-described c =
 
 pub returns-in_err-frame-clause-fault : goal.returns-in_err-frame-clause-fault
 returns-in_err-frame-clause-fault c =
-    let found : (log : List ℕ) → IsUnderWay c.args.judge.now log c.args.reader.now c.args.stage.now → IsFaultOf c.args.judge.now log c.in_err-frame.field-0.0 =
+    let found : (log : List ℕ) → IsLogUnderWay c.args.judge.now log c.args.reader.now c.args.stage.now → IsFaultOf c.args.judge.now log c.in_err-frame.field-0.0 =
     λ log under. reading_fault c.args.judge.now log c.frames.reader c.frames.stage c.in-Some.place c.in_err-frame.field-0.0 (sym c.in-Some.ensures.place)
     c.in_err-frame.ensures.fault (c.frames.invariant.goes_on log under) in
     let p = err_from_is_err_and c.from_residual.result c.from_residual.ensures.1 in

@@ -1,4 +1,4 @@
-use Rattle.proof_frames.proofs.Machine as law
+use Rattle.proof_frames.proofs.Begun as law
 use Rattle.proof_frames.proofs.laws.goes_on_or_is_bad.Goals as goal
 
 pub returns-clause-either : goal.returns-clause-either

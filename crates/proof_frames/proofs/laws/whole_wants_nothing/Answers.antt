@@ -1,4 +1,4 @@
-use Rattle.proof_frames.proofs.Decoding as law
+use Rattle.proof_frames.proofs.Begun as law
 use Rattle.proof_frames.proofs.laws.whole_wants_nothing.Goals as goal
 
 pub returns-clause-whole : goal.returns-clause-whole

@@ -1,15 +1,14 @@
-use Rattle.std.proofs.Common.{◌*◌, ◌+◌, ◌≤◌, ◌∙◌, ap, take, length, arith}
+use Rattle.std.proofs.Common.{◌*◌, ◌+◌, ◌≤◌, ◌∙◌, refl, ap, take, length, arith}
 use Rattle.std.proofs.lemmas.List.Elements.{All-from_get_or}
 use Rattle.proof_frames.proofs.Octets.{IsByte}
-use Rattle.proof_frames.proofs.TreeLemmas.{tree_read, word_length}
-use Rattle.proof_frames.proofs.TreeFrames.{level_read, level_fits}
+use Rattle.proof_frames.proofs.TreeFrames.{tree_length, tree_read, level_read, level_fits}
 use Rattle.proof_frames.proofs.trees.reply_of.Goals as goal
 
 pub loop-level-preserved : goal.loop-level-preserved
 loop-level-preserved c =
     let bytes = c.args.bytes.now in
     let level = c.loop-level.level in
-    let sized = word_length (32 * c.args.height) 255 bytes c.requires.tree in
+    let sized = tree_length c.args.height 32 255 bytes c.requires.tree in
     let within : 32 * level + 32 ≤ length bytes = omega (arith, sized, c.loop-level-test.true) in
     record {
       bytes = level_read bytes level c.loop-level.messages.items c.push_reserved.new.self.items c.messages_at.result c.push_reserved.ensures.items c.loop-level.invariant.bytes
@@ -23,5 +22,5 @@ loop-level-preserved c =
 
 pub returns-clause-spelled : goal.returns-clause-spelled
 returns-clause-spelled c =
-    tree_read (32 * c.args.height) 255 c.element_at.result c.args.bytes.now _ c.requires.tree (c.loop-level.invariant.bytes
-    ∙ ap (λ n. take (32 * n) c.args.bytes.now) (omega (arith, c.loop-level-test.false, c.loop-level.auto.level-end))) c.element_at.ensures
+    (tree_read c.args.height 32 255 c.element_at.result (32 * c.args.height) c.args.bytes.now _ c.requires.tree refl (c.loop-level.invariant.bytes
+    ∙ ap (λ n. take (32 * n) c.args.bytes.now) (omega (arith, c.loop-level-test.false, c.loop-level.auto.level-end))) c.element_at.ensures).0

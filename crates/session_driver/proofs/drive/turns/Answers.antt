@@ -2,7 +2,8 @@ use Rattle.std.proofs.Common.{refl, sym, ◌∙◌}
 use Rattle.session_driver.specs.Runs.{moves_of}
 use Rattle.session_driver.specs.declared.drive.Outcome.TheVariants.{Cut}
 use Rattle.frame_link.proofs.LineLemmas.{fails_at}
-use Rattle.session_driver.proofs.Going.{runs_begin, runs_on, few_first, few_more, run_over, run_ungreeted, run_stops}
+use Rattle.session_driver.proofs.Going.{runs_begin, runs_on, few_first, few_more}
+use Rattle.session_driver.proofs.Left.{run_over, run_ungreeted, run_stops}
 use Rattle.session_driver.proofs.drive.turns.Goals as goal
 
 pub returns-in_err-greet-clause-stops : goal.returns-in_err-greet-clause-stops

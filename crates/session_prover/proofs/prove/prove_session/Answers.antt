@@ -1,7 +1,8 @@
 use Rattle.std.proofs.Common.{rules, length, ap, sym, subst, ◌^◌, ◌≤◌, ◌∙◌, []}
-use Rattle.zk_model.specs.declared.Side.TheVariants.{Prover}
+use Rattle.zk_model.specs.declared.Side.TheVariants.{Prover, Verifier}
 use Rattle.frame_link.specs.Lines.{LinkSnapshot, snapshot, snapshot_of}
 use Rattle.session_prover.specs.Stages.{Claim, IsSound}
+use Rattle.session_driver.specs.Leaving.{HasCome}
 use Rattle.session_prover.specs.Notes.{HasEnded}
 use Rattle.zk_model.specs.Files.{IsProverFile}
 use Rattle.zk_model.specs.Program.{Program}
@@ -25,19 +26,18 @@ sound_of g c = record {
   opened = subst (λ (p : Program). length p.opened ≤ 2 ^ 24) (c.program.ensures.program ∙ ap (λ (s : Statement). s.program) c.statement.ensures.statement) c.opened-opened.ensures.held.opened;
 }
 
--- how it ended
-ends_of : (g : Over) (c : goal.After-end-link g)
-    → HasEnded c.args.job.now (claim_of g c) c.prove-course.result.outcome (snapshot Prover [] (g.L.Link.state c.args.link))
-    (snapshot Prover c.end-link.result.1 (g.L.Link.state c.end-link.result.0))
-ends_of g c =
+-- the line's moments are those
+moments : (g : Over) (c : goal.After-end-link g) (P : LinkSnapshot → LinkSnapshot → Type 0) → P (snapshot_of c.new-line.result) (snapshot_of c.prove-course.new.line)
+    → P (snapshot Prover [] (g.L.Link.state c.args.link)) (snapshot Prover c.end-link.result.1 (g.L.Link.state c.end-link.result.0))
+moments g c P holds =
     let ended = ap (λ side. snapshot side c.end-link.result.1 (g.L.Link.state c.end-link.result.0)) (sym c.prove-course.ensures.side)
     ∙ c.end-link.ensures.passed in
-    subst (λ (q : LinkSnapshot × LinkSnapshot). HasEnded c.args.job.now (claim_of g c) c.prove-course.result.outcome q.0 q.1)
-    (λ i. (ap snapshot_of c.new-line.ensures i, sym ended i)) c.prove-course.ensures.ends
+    subst (λ (q : LinkSnapshot × LinkSnapshot). P q.0 q.1) (λ i. (ap snapshot_of c.new-line.ensures i, sym ended i)) holds
 
 pub returns : goal.returns
 returns g c =
-    let ends = ends_of g c in
+    let ends = moments g c (λ first now. HasEnded c.args.job.now (claim_of g c) first c.prove-course.result.outcome now) c.prove-course.ensures.ends in
+    let come = moments g c (HasCome Verifier) c.prove-course.ensures.come in
     record {
       granted = record { granted_is = c.prove-course.ensures.granted; asked = ends.asked };
       moved = c.prove-course.ensures.moved;
@@ -48,9 +48,9 @@ returns g c =
       claimed = ends.claimed;
       related = ends.related;
       logged = ends.logged;
-      came = ends.came;
+      came = come.came;
       sends = ends.sends;
-      receives = ends.receives;
+      receives = come.receives;
       faults = ends.count;
       ended = search rules;
       complete = completes c.args.job.now (claim_of g c) c.end-link.result.1 (snapshot Prover [] (g.L.Link.state c.args.link))

@@ -6,7 +6,7 @@ use Rattle.zk_model.specs.Circuit.{Circuit, IsWellFormed, AreWireBits, output_wi
 use Rattle.zk_model.specs.Program.{Program, section_count, correlations_needed}
 use Rattle.zk_model.specs.Boolean.{private_inputs, bits_of_products, products_of_bits, circuit_program}
 use Rattle.zk_model.specs.Files.{ProverFile, VerifierFile}
-use Rattle.zk_model.specs.Dealing.{dealt_prover, dealt_verifier}
+use Rattle.dealer_files.specs.Dealing.{dealt_prover, dealt_verifier}
 use Rattle.zk_model.specs.Statement.{Statement, circuit_statement}
 use Rattle.zk_model.specs.Transcript.{units_for}
 use Rattle.zk_model.specs.declared.Kind.{Kind}

@@ -4,7 +4,8 @@ use Rattle.zk_model.specs.Frames.{grant}
 use Rattle.proof_frames.specs.Frames.{frame_value}
 use Rattle.session_core.specs.Jobs.{VerifierJob, granted_from, units_of_job}
 use Rattle.session_core.specs.Cores.{VerifierState, behind_grant}
-use Rattle.session_verifier.specs.Serving.{AreUnits, Greeted, Leases, grants_of, served}
+use Rattle.session_verifier.specs.Serving.{Greeted, Leases, grants_of, served}
+use Rattle.session_verifier.specs.Stages.{AreUnits}
 use Rattle.session_verifier.proofs.ServeLemmas.{greeted_by, leases_for}
 use Rattle.session_verifier.proofs.serve.grant_units.Given.{Over}
 use Rattle.session_verifier.proofs.serve.grant_units.Goals.{After-grant_frames}

@@ -1,18 +1,23 @@
-use Rattle.std.proofs.Common.{◌≡◌, rules, ◌^◌, ◌≤◌, [], ap, sym, ◌∙◌, subst, length, arith}
+use Rattle.std.proofs.Common.{rules, ◌^◌, ◌≤◌, [], ap, sym, ◌∙◌, subst, length, arith, Option, Result, ◌≡◌}
 use Rattle.zk_model.specs.Statement.{Statement, IsStatement}
 use Rattle.zk_model.specs.Files.{IsVerifierFile}
 use Rattle.zk_model.specs.Program.{Program}
-use Rattle.zk_model.specs.Transcript.{sent_by}
 use Rattle.zk_model.specs.declared.Side.TheVariants.{Prover, Verifier}
-use Rattle.zk_port.specs.Logs.{put_before}
 use Rattle.frame_link.specs.Lines.{LineState, LinkSnapshot, snapshot, snapshot_of}
 use Rattle.session_core.specs.Jobs.{VerifierJob, noted_job}
-use Rattle.session_verifier.specs.Notes.{TakesStatement}
-use Rattle.session_verifier.specs.Stages.{IsCourse}
-use Rattle.session_verifier.proofs.CourseLemmas.{IsKnown, answers_lease, granted_is, judges_rightly, receives_few, counts_faults, leases_behind, ends_because, is_shown, sends_rightly, accepts_exactly}
-use Rattle.session_verifier.proofs.HonestLemmas.{AreLaws, completes, is_told, keeps_keys}
+use Rattle.session_driver.specs.Leaving.{HasCome}
+use Rattle.session_verifier.specs.Notes.{TakesStatement, AnswersLease, JudgesRightly, AcceptsExactly, IsShown, SendsRightly, EndsBecause, LeasesBehindHello, IsTold, CompletesForEach, CountsFaults}
+use Rattle.session_verifier.specs.Stages.{IsCourse, answer_at, outcome_at}
+use Rattle.session_verifier.proofs.CourseLemmas.{answers_lease, judges_rightly, counts_faults, leases_behind, ends_because, is_shown, sends_rightly, accepts_exactly, keeps_keys}
+use Rattle.session_verifier.proofs.HonestLemmas.{AreLaws, completes, is_told}
 use Rattle.session_verifier.proofs.verify.verify_session.Given.{Over}
 use Rattle.session_verifier.proofs.verify.verify_session.Goals as goal
+use Rattle.session_verifier.proofs.Cuts.{IsKnown}
+use Rattle.session_pool.specs.Notes.{granted_by}
+use Rattle.zk_model.specs.declared.Span.{Span}
+use Rattle.lease_store.specs.declared.LeaseFault.{LeaseFault}
+use Rattle.session_verifier.specs.declared.note.VerifierOutcome.{VerifierOutcome}
+use Rattle.session_verifier.specs.declared.note.VerifierOutcome.TheVariants.{Accepted}
 
 -- the job about the statement that was taken
 abbrev noted_of : (g : Over) (c : goal.After-end-link g) → VerifierJob
@@ -35,19 +40,21 @@ first_of g c = snapshot Verifier [] (g.L.Link.state c.args.link)
 abbrev now_of : (g : Over) (c : goal.After-end-link g) → LinkSnapshot
 now_of g c = snapshot Verifier c.end-link.result.1 (g.L.Link.state c.end-link.result.0)
 
+-- the line's moments are those
+moments : (g : Over) (c : goal.After-end-link g) (P : LinkSnapshot → LinkSnapshot → Type 0) → P (snapshot_of c.new-line.result) (snapshot_of c.serve-course.new.line)
+    → P (first_of g c) (now_of g c)
+moments g c P holds =
+    let ended = ap (λ s. snapshot s c.end-link.result.1 (g.L.Link.state c.end-link.result.0)) (sym c.serve-course.ensures.side) ∙ c.end-link.ensures.passed in
+    subst (λ (q : LinkSnapshot × LinkSnapshot). P q.0 q.1) (λ i. (ap snapshot_of c.new-line.ensures i, sym ended i)) holds
+
 -- it is a course of the job
 course_of : (g : Over) (c : goal.After-end-link g) → IsCourse (noted_of g c) (g.R.Grantor.answer c.serve-course.new.grantor) c.serve-course.result.granted c.serve-course.result.outcome (first_of g c) (now_of g c)
-course_of g c =
-    let ended = ap (λ s. snapshot s c.end-link.result.1 (g.L.Link.state c.end-link.result.0)) (sym c.serve-course.ensures.side) ∙ c.end-link.ensures.passed in
-    subst (λ (q : LinkSnapshot × LinkSnapshot). IsCourse (noted_of g c) (g.R.Grantor.answer c.serve-course.new.grantor) c.serve-course.result.granted c.serve-course.result.outcome q.0 q.1)
-    (λ i. (ap snapshot_of c.new-line.ensures i, sym ended i)) c.serve-course.ensures.course
+course_of g c = moments g c (IsCourse (noted_of g c) (g.R.Grantor.answer c.serve-course.new.grantor) c.serve-course.result.granted c.serve-course.result.outcome)
+    c.serve-course.ensures.course
 
 -- and what came is what the link no longer has to come
-came_of : (g : Over) (c : goal.After-end-link g) → (first_of g c).to_come ≡ put_before (sent_by Prover c.end-link.result.1) (now_of g c).to_come
-came_of g c =
-    let ended = ap (λ s. snapshot s c.end-link.result.1 (g.L.Link.state c.end-link.result.0)) (sym c.serve-course.ensures.side) ∙ c.end-link.ensures.passed in
-    subst (λ (q : LinkSnapshot × LinkSnapshot). q.0.to_come ≡ put_before (sent_by Prover q.1.log) q.1.to_come)
-    (λ i. (ap snapshot_of c.new-line.ensures i, sym ended i)) c.serve-course.ensures.came
+come_of : (g : Over) (c : goal.After-end-link g) → HasCome Prover (first_of g c) (now_of g c)
+come_of g c = moments g c (HasCome Prover) c.serve-course.ensures.come
 
 -- which statement was taken
 statement_of : (g : Over) (c : goal.After-end-link g)
@@ -64,21 +71,26 @@ serve-course-requires-clause-fresh g c κs within = record {
   is_open = ap (λ (l : LineState). l.is_open) c.new-line.ensures ∙ c.requires.open;
 }
 
+-- the parts of its course that clauses speak of
+abbrev Parts : Type 0
+Parts = Option (Result Span LeaseFault) × (Option Span × VerifierOutcome)
+
 pub returns : goal.returns
 returns g c =
     let serve = c.serve-course in
-    let taken = serve.result.taken in
     let job = noted_of g c in
-    let answer = g.R.Grantor.answer serve.new.grantor in
-    let granted = serve.result.granted in
-    let outcome = serve.result.outcome in
     let first = first_of g c in
     let now = now_of g c in
     let known = known_of g c in
     let course = course_of g c in
+    let ending = course.ending in
+    let has = course.has in
     let ranges = c.replies_are_in_range.ensures in
     let exists = c.served_session_exists.ensures in
-    let sends = sends_rightly job answer granted outcome first now ranges exists known course in
+    let parts : Parts = (g.R.Grantor.answer serve.new.grantor, (serve.result.granted, serve.result.outcome)) in
+    let same : (answer_at ending, (granted_by (answer_at ending), outcome_at ending)) ≡ parts =
+    (λ i. (sym course.answer_is i, (sym course.granted_is i, sym course.outcome_is i))) in
+    let sends = subst (λ (q : Parts). SendsRightly job q.1.0 q.1.1 now.log) same (sends_rightly job ending first now ranges exists known has) in
     let laws : AreLaws = record {
       ranges = ranges;
       exists = exists;
@@ -92,20 +104,22 @@ returns g c =
       sized = (omega arith, known.is.units_most);
       asked = serve.ensures.asked;
       moved = serve.ensures.moved;
-      granted = granted_is job answer granted outcome first now course;
-      refused = answers_lease job answer granted outcome first now course;
-      verdict = judges_rightly job answer granted outcome first now known course;
-      accepted = accepts_exactly job answer granted outcome first now ranges exists c.cut_is_not_accepted.ensures c.verdict_is_said.ensures
-          known course;
-      shown = is_shown job answer granted outcome first now known c.extraction_holds.ensures course;
+      granted = course.granted_is ∙ ap granted_by (sym course.answer_is);
+      refused = subst (λ (q : Parts). AnswersLease q.0 q.1.1) same (answers_lease ending);
+      verdict = subst (λ (q : Parts). JudgesRightly job q.1.0 q.1.1 now.log) same (judges_rightly job ending first now known has);
+      accepted = subst (λ (q : Parts). AcceptsExactly job q.1.1 now.log) same
+          (accepts_exactly job ending first now ranges exists c.cut_is_not_accepted.ensures c.verdict_is_said.ensures known has);
+      shown = subst (λ (q : Parts). q.1.1 ≡ Accepted → IsShown job q.1.0 now.log) same (is_shown job ending first now known c.extraction_holds.ensures has);
       sends = sends;
-      related = keeps_keys job granted outcome c.end-link.result.1 c.keys_fit.ensures known sends;
-      cause = ends_because job answer granted outcome first now known course;
-      leased = leases_behind job answer granted outcome first now course;
-      told = is_told job answer granted outcome first now ranges exists known course;
-      came = came_of g c;
-      receives = receives_few job answer granted outcome first now course;
-      complete = completes c.args.jobs.now taken answer granted outcome first now laws c.are_stated.ensures known (statement_of g c) course;
-      faults = counts_faults job answer granted outcome first now course;
+      related = keeps_keys job serve.result.granted serve.result.outcome c.end-link.result.1 c.keys_fit.ensures known sends;
+      cause = subst (λ (q : Parts). EndsBecause job q.0 q.1.1 first now) same (ends_because job ending first now known has);
+      leased = subst (λ (q : Parts). LeasesBehindHello job q.0 now.log) same (leases_behind job ending first now has);
+      told = subst (λ (q : Parts). IsTold job q.1.0 q.1.1 first now) same (is_told job ending first now ranges exists known has);
+      came = (come_of g c).came;
+      receives = (come_of g c).receives;
+      complete = subst (λ (q : Parts). CompletesForEach c.args.jobs.now q.0 q.1.1 first now) same
+          (completes c.args.jobs.now serve.result.taken ending first now laws c.are_stated.ensures known
+          (subst (λ (q : Parts). TakesStatement c.args.jobs.now serve.result.taken q.0 q.1.1 now.log) (sym same) (statement_of g c)) has);
+      faults = subst (λ (q : Parts). CountsFaults q.1.1 first now) same (counts_faults job ending first now has);
       ended = search rules;
     }

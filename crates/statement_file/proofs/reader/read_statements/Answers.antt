@@ -1,6 +1,6 @@
 use Rattle.std.proofs.Common.{rules, ◌≡◌, List, length, Some, None, sym, ap, ◌∙◌, subst, arith, inl, inr}
 use Rattle.std.proofs.lemmas.Bool.Decides.{nat_tests}
-use Rattle.statement_file.specs.Claims.{NamedClaim, claim_of}
+use Rattle.statement_file.specs.Claims.{NamedClaim, claim_of_line}
 use Rattle.statement_file.proofs.Reading.{Reads, begins, step_kept, all_kept, kept_few, all_read, bad_line, good_lines}
 use Rattle.statement_file.proofs.reader.read_statements.Goals as goal
 
@@ -9,13 +9,13 @@ loop-rest-init c = subst (λ (kept : List NamedClaim). Reads c.args.text.now c.a
 
 pub returns-in_default-clause-fault : goal.returns-in_default-clause-fault
 returns-in_default-clause-fault c =
-    let none : None ≡ claim_of c.first_line.result.0.now = search rules in
+    let none : None ≡ claim_of_line c.first_line.result.0.now = search rules in
     bad_line c.args.text.now c.loop-rest.rest.now c.first_line.result.0.now c.first_line.result.1.now c.loop-rest.count c.loop-rest.claims.items
     c.loop-rest.invariant c.first_line.ensures.lines none
 
 pub loop-rest-preserved : goal.loop-rest-preserved
 loop-rest-preserved c =
-    let is : Some c.in-Some.claim ≡ claim_of c.first_line.result.0.now = search rules in
+    let is : Some c.in-Some.claim ≡ claim_of_line c.first_line.result.0.now = search rules in
     step_kept c.args.text.now c.loop-rest.rest.now c.first_line.result.0.now c.first_line.result.1.now c.loop-rest.count c.loop-rest.claims.items _
     c.in-Some.claim c.loop-rest.invariant c.first_line.ensures.lines c.first_line.ensures.shorter is c.in_ok-keep.ensures
 

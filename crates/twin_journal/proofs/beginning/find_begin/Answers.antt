@@ -1,5 +1,5 @@
 use Rattle.std.proofs.Common.{◌≡◌, ◌≤◌, ◌+◌, ◌*◌, ◌^◌, ℕ, List, true, false, ap, sym, ◌∙◌, subst, arith}
-use Rattle.zk_model.specs.Twins.{is_migrated}
+use Rattle.lease_journal.specs.Twins.{is_migrated}
 use Rattle.lease_journal.specs.Headers.{IsRead, NoHeaderCause}
 use Rattle.lease_journal.proofs.Headers.{slots_read}
 use Rattle.lease_journal.proofs.MovedHeaders.{few_moved, migrated_read, moved_header, moved_wrong}

@@ -1,6 +1,6 @@
 use Rattle.std.proofs.Common.{ℕ, ◌+◌, ◌*◌, List, Bool, arith}
 use Rattle.zk_port.specs.Disks.{LeavesOnly}
-use Rattle.zk_model.specs.Twins.{SaysOldOrNew}
+use Rattle.lease_journal.specs.Twins.{SaysOldOrNew}
 use Rattle.lease_journal.specs.Keeps.{ChangesAt}
 use Rattle.lease_journal.proofs.Keeping.{changes_then, changes_wider}
 use Rattle.lease_journal.proofs.Moments.{then_leaves}

@@ -2,7 +2,7 @@ use Rattle.std.proofs.Common.{◌≡◌, ◌<◌, ◌+◌, ◌*◌, ◌^◌, len
 use Rattle.zk_port.specs.Disks.{DiskState}
 use Rattle.lease_journal.specs.Keeps.{ChangesAt}
 use Rattle.lease_journal.proofs.Keeping.{changes_sync, changes_wider, changes_write, steps_written}
-use Rattle.twin_journal.specs.Compactions.{IsWritten}
+use Rattle.twin_journal.specs.Compactions.{IsAreaWritten}
 use Rattle.twin_journal.proofs.AreaWrites.{IsWriting, area_writing, area_written}
 use Rattle.twin_journal.proofs.compacting.write_area.Given.{Over}
 use Rattle.twin_journal.proofs.compacting.write_area.Goals.{After-sync, After-write_slots}
@@ -48,7 +48,7 @@ returns-clause-written g c =
     let told = area_written to.head to.slots to.generation small c.to_le_bytes.result c.to_le_bytes.ensures bodies bytes fits
     (g.B.Disk.state c.args.disk.now).content (g.B.Disk.state c.write_at.new.self).content (g.B.Disk.state c.write_slots.new.disk).content
     is c.in_ok-write_at.ensures.written c.in_ok-filled.ensures.filled c.write_slots.ensures.changes.content in
-    subst (λ o. IfSome o (IsWritten to.head to.slots to.generation bodies)) (sym c.sync.ensures.stays.content) told
+    subst (λ o. IfSome o (IsAreaWritten to.head to.slots to.generation bodies)) (sym c.sync.ensures.stays.content) told
 
 pub returns-clause-gate : goal.returns-clause-gate
 returns-clause-gate g c = (writing g (goal.at.returns-clause-gate g c).After-write_slots _ (synced g (goal.at.returns-clause-gate g c).After-sync)).gate

@@ -1,5 +1,5 @@
 use Rattle.std.proofs.Common.{◌≡◌, ◌≤◌, ◌*◌, ℕ, List, length, drop, min, Some, IfSome}
-use Rattle.zk_model.specs.Journals.{body_before}
+use Rattle.lease_journal.specs.Journals.{body_before}
 use Rattle.lease_journal.specs.Keeps.{ChangesAt}
 use Rattle.twin_journal.specs.Filling.{IsFilled}
 use Rattle.twin_journal.proofs.filling.write_slots.Given as goal

@@ -1,5 +1,5 @@
 use Rattle.std.proofs.Common.{◌≡◌, ap, ◌∙◌}
-use Rattle.zk_model.specs.Twins.{IsFirstTwinWrong, are_twin_slots}
+use Rattle.lease_journal.specs.Twins.{IsFirstTwinWrong, are_twin_slots}
 use Rattle.lease_journal.specs.Headers.{may_be_slots}
 use Rattle.lease_journal.proofs.Headers.{cut_header, slots_read}
 use Rattle.twin_journal.proofs.HeaderReads.{fits_few, header_read, right_slots, slots_of, wrong_read}

@@ -1,5 +1,5 @@
 use Rattle.std.proofs.Common.{◌≡◌, ◌≤◌, ◌+◌, ◌*◌, ℕ, List, length, Some, IfSome, sym, subst, arith, rules}
-use Rattle.zk_model.specs.Twins.{twin_length}
+use Rattle.lease_journal.specs.Twins.{twin_length}
 use Rattle.lease_journal.specs.Keeps.{ChangesAt}
 use Rattle.lease_journal.proofs.Keeping.{changes_sync, changes_then, changes_wider}
 use Rattle.twin_journal.specs.Filling.{IsFilled}

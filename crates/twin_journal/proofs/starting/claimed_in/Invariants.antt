@@ -1,6 +1,6 @@
 use Rattle.std.proofs.Common.{◌≡◌, ◌≤◌, ◌+◌, ◌-◌, ◌*◌, ◌^◌, ℕ, List, length, min, sum_by, Some}
 use Rattle.zk_port.specs.Disks.{Stays}
-use Rattle.zk_model.specs.Journals.{first_bodies}
+use Rattle.lease_journal.specs.Journals.{first_bodies}
 use Rattle.twin_journal.proofs.starting.claimed_in.Given as goal
 
 abbrev pub invariant-loop-slot : goal.invariant-loop-slot

@@ -1,6 +1,6 @@
 use Rattle.std.proofs.Common.{◌≡◌, ◌+◌, ◌-◌, ◌^◌, ℕ, List, length, min, Some, None, refl, ap, ◌∙◌, subst, arith}
-use Rattle.zk_model.specs.Journals.{IsFirstBad, first_bodies}
-use Rattle.zk_model.specs.Twins.{area_at, claimed_units}
+use Rattle.lease_journal.specs.Journals.{IsFirstBad, first_bodies}
+use Rattle.lease_journal.specs.Twins.{area_at, claimed_units}
 use Rattle.lease_journal.specs.Causes.{IsScanned}
 use Rattle.twin_journal.proofs.Opening.{area_inside, bad_body, bad_generation, opened_from}
 use Rattle.twin_journal.proofs.starting.open_at.Given.{Over}

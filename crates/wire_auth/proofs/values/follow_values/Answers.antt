@@ -1,7 +1,7 @@
 use Rattle.std.proofs.Common.{◌≡◌, ◌∙◌, ℕ, List, arith, length, ap, refl, subst}
 use Rattle.zk_model.specs.Program.{step_value}
 use Rattle.field_program.specs.Steps.{step_equation}
-use Rattle.wire_auth.specs.Sides.{IsTaken}
+use Rattle.wire_auth.specs.Sides.{IsGivenTaken}
 use Rattle.wire_auth.specs.Values.{given_from}
 use Rattle.wire_auth.proofs.Setting.{reads_within}
 use Rattle.wire_auth.proofs.Making.{can_be_made, made_more, all_made}
@@ -15,8 +15,8 @@ step_number-number-requires c =
 pub loop-k-preserved : goal.loop-k-preserved
 loop-k-preserved c =
     let given = given_from c.args.program.now c.loop-k.values.items in
-    let taken : IsTaken given c.step-step.result c.taken_value-taken.result =
-    subst (λ (l : List ℕ). IsTaken (given_from c.args.program.now l) c.step-step.result c.taken_value-taken.result) c.deref.ensures.value c.taken_value-taken.ensures in
+    let taken : IsGivenTaken given c.step-step.result c.taken_value-taken.result =
+    subst (λ (l : List ℕ). IsGivenTaken (given_from c.args.program.now l) c.step-step.result c.taken_value-taken.result) c.deref.ensures.value c.taken_value-taken.ensures in
     made_more c.args.program.now c.args.begun.items c.loop-k.values.items _
     c.loop-k.k c.out.result c.step_number-number.result (step_equation c.step-step.result)
     (can_be_made c.args.program.now c.step-step.ensures.held) c.step-step.ensures.step c.out.ensures

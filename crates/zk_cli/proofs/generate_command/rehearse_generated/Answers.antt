@@ -1,7 +1,7 @@
 use Rattle.std.proofs.Common.{◌≡◌, ◌∙◌, List, Bool, [], sym, subst}
 use Rattle.zk_model.specs.Bristol.{IsText}
 use Rattle.zk_model.specs.Circuit.{Circuit}
-use Rattle.zk_model.specs.Generated.{generated_circuit}
+use Rattle.circuit_gen.specs.Generated.{generated_circuit}
 use Rattle.session_rehearsal.specs.Rehearsals.{IsRehearsalOf}
 use Rattle.zk_cli.proofs.generate_command.rehearse_generated.Goals as goal
 

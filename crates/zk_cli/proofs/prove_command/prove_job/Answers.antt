@@ -1,6 +1,6 @@
 use Rattle.std.proofs.Common.{◌≡◌, ℕ, List, Some, sym, ap, ◌∙◌, subst}
 use Rattle.zk_model.specs.Files.{ProverFile}
-use Rattle.zk_model.specs.Twins.{HoldsTwin}
+use Rattle.lease_journal.specs.Twins.{HoldsTwin}
 use Rattle.zk_model.specs.declared.JournalKind.TheVariants as kind
 use Rattle.claim_store.specs.Claims.{AreClaims, SaysClaims}
 use Rattle.file_commands.specs.ClaimedUnits.{KeepsClaims}

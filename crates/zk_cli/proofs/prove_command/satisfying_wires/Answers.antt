@@ -1,7 +1,7 @@
 use Rattle.std.proofs.Common.{◌≡◌, ◌++◌, Bool, List, length, drop, ap, ◌∙◌, refl, subst, arith, rules}
 use Rattle.std.proofs.lemmas.List.{length-drop}
 use Rattle.zk_model.specs.Circuit.{Satisfies, output_wire}
-use Rattle.zk_cli.specs.ProveRuns.{DiffersFirst}
+use Rattle.zk_cli.specs.ProveRuns.{BitDiffersFirst}
 use Rattle.zk_cli.proofs.prove_command.satisfying_wires.Goals as goal
 
 pub first_difference-requires : goal.first_difference-requires
@@ -30,5 +30,5 @@ returns-in-Some-clause-stop c =
       gives = gives;
       only = λ others by. c.one_outcome.ensures circuit bits others given c.wires-wires.ensures.rules.well_formed by gives;
       count = search rules;
-      differs = subst (λ (shown : List Bool). DiffersFirst c.in-Some.output shown claimed) last c.in-Some.ensures.first;
+      differs = subst (λ (shown : List Bool). BitDiffersFirst c.in-Some.output shown claimed) last c.in-Some.ensures.first;
     }

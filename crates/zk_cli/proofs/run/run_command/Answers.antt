@@ -4,7 +4,8 @@ use Rattle.session_verifier.specs.declared.note.SessionNote.{SessionNote}
 use Rattle.session_verifier.specs.declared.note.VerifierOutcome.TheVariants.{Accepted}
 use Rattle.command_words.specs.BitWords.{Bits}
 use Rattle.command_words.specs.Commands.{ask_of, named_options}
-use Rattle.command_words.specs.Words.{Ask, ServeAsk, serve, serve_ask}
+use Rattle.command_words.specs.Words.{Ask, ServeAsk, serve_ask}
+use Rattle.command_words.specs.declared.asks.Ask.TheVariants.{Serve as serve}
 use Rattle.statement_file.specs.Claims.{NamedClaim, named_claim}
 use Rattle.statement_file.specs.Services.{Service, service, service_asked}
 use Rattle.file_commands.specs.Effects.{effects}
@@ -17,7 +18,7 @@ use Rattle.zk_cli.proofs.run.run_command.Goals as goal
 
 pub returns-in-Serve-clause-promises : goal.returns-in-Serve-clause-promises
 returns-in-Serve-clause-promises g c =
-    let found = c.in-Serve in
+    let found = c.in-Serve.ask in
     let ask : ServeAsk Bits = serve_ask (string_bytes found.address) (string_bytes found.file) (string_bytes found.circuit) found.public.items
     found.outputs.items (named_options found.options) in
     let claims : c.from_ref.result.now ≡ named_claim (string_bytes found.circuit) found.public.items found.outputs.items ∷ [] =
@@ -32,7 +33,7 @@ returns-in-Serve-clause-promises g c =
     let shelf = change (g.F.Shelf.state c.args.shelf.now) (g.F.Shelf.state c.run_service.new.shelf) in
     let run = run_of g.F.Shelf.state g.D.Door.state g.D.Link.Link.state result.status result.part (change c.args.shelf.now c.run_service.new.shelf) sink
     (change c.args.journal result.journal) (change c.args.door result.door) in
-    let asked_is : ask_of (λ v. v.items) c.args.command ≡ serve ask = ap (ask_of (λ v. v.items)) found.is in
+    let asked_is : ask_of (λ v. v.items) c.args.command ≡ serve ask = ap (ask_of (λ v. v.items)) c.in-Serve.is in
     let promises : Promises (serve ask) c.args.seed.now disk run = record {
       meets = subst (λ (s : Service). Serves {L = g.row.D-Link.Denot} g.D.Link.Link.state s result.part disk door (effects result.status shelf sink))
           same c.run_service.ensures.serves;

@@ -4,7 +4,7 @@ use Rattle.zk_model.specs.Statement.{Statement}
 use Rattle.zk_model.specs.declared.limits.TheConstants.{MAX_UNITS}
 use Rattle.zk_port.specs.Changes.{change}
 use Rattle.session_core.specs.Jobs.{VerifierJob, VerifierJobs, all_jobs, units_of_job}
-use Rattle.zk_cli.specs.ServeRuns.{AreFew, AreServeJobs, FitStop, IsStatementOf, service_words}
+use Rattle.zk_cli.specs.ServeRuns.{TakeFewUnits, AreServeJobs, FitStop, IsStatementOf, service_words}
 use Rattle.zk_cli.proofs.Loading.{are_jobs, job_over, lacks_jobs, err_then, lacks_memory, ok_then, parted_jobs}
 use Rattle.zk_cli.proofs.Pairs.{zip_length}
 use Rattle.zk_cli.proofs.serve_command.serve_files.Goals as goal
@@ -53,7 +53,7 @@ serve_jobs-requires-clause-few g c κs within =
     let jobs : VerifierJobs = record { first = c.first-item.result; others = take (length c.as_slice.result.now - 1) (drop 1 c.as_slice.result.now) } in
     let are : all_jobs jobs ≡ c.in-Ok-fit_jobs.jobs.items =
     parted_jobs c.as_slice.result.now c.first-item.result c.in-len1-up.len_at_least c.first-item.is ∙ c.as_slice.ensures.value in
-    subst AreFew (sym c.new-jobs.ensures)
+    subst TakeFewUnits (sym c.new-jobs.ensures)
     (subst (λ (js : List VerifierJob). All (λ job. units_of_job job ≤ MAX_UNITS) js) (sym are) c.in-Ok-fit_jobs.ensures.few)
 
 pub returns-clause-leads : goal.returns-clause-leads

@@ -3,7 +3,7 @@ use Rattle.zk_model.specs.Files.{VerifierFile}
 use Rattle.zk_port.specs.Changes.{change}
 use Rattle.zk_port.specs.Doors.{DoorState}
 use Rattle.lease_store.specs.Ceilings.{HasCeilingHeader, SaysCeiling}
-use Rattle.session_pool.specs.Doors.{Takes}
+use Rattle.session_pool.specs.Doors.{TakesLinks}
 use Rattle.session_pool.specs.Notes.{IsLeft, IsRefusedAmong, IsUnused}
 use Rattle.session_verifier.specs.Outcomes.{lease_fault}
 use Rattle.file_commands.specs.Journals.{JournalStop, disk_change, IsCeilingsFault}
@@ -48,7 +48,7 @@ returns-in-Ok-listen-clause-leads g c =
     c.in-Ok.ensures.opens
     (subst (λ (f : VerifierFile). (bytes : List ℕ) → old.content ≡ Some bytes → SaysCeiling f.id f.params.total base bytes) file c.in-Ok.ensures.base)
     led.ensures.notes
-    (subst (λ (d : DoorState). Takes service.options.sessions (length notes) served.door_failed served.memory_failed d (g.D.Door.state served.door))
+    (subst (λ (d : DoorState). TakesLinks service.options.sessions (length notes) served.door_failed served.memory_failed d (g.D.Door.state served.door))
     c.in-Ok-listen.ensures.listens led.ensures.taken)
     led.ensures.apart (All IsUnused c.in-Ok.opened.1.items) c.in-Ok.ensures.unused
     (subst (λ (p : ℕ × ℕ). IsLeft (All IsUnused c.in-Ok.opened.1.items) mid new c.args.jobs.now.first.task.file.id base p.0 p.1

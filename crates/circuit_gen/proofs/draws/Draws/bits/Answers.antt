@@ -1,6 +1,6 @@
 use Rattle.std.proofs.Common.{◌≡◌, ◌∙◌, ap, refl, arith, map}
 use Rattle.std.specs.List.{range_with_len}
-use Rattle.zk_model.specs.Generated.{draw, state_after, generated_bit, generated_bits}
+use Rattle.circuit_gen.specs.Generated.{draw, state_after, generated_bit, generated_bits}
 use Rattle.circuit_gen.proofs.Drawing.{draw_is, more_bits}
 use Rattle.circuit_gen.proofs.draws.Draws.bits.Goals as goal
 

@@ -1,6 +1,6 @@
 use Rattle.std.proofs.Common.{◌≡◌, map}
 use Rattle.std.specs.List.{range_with_len}
-use Rattle.zk_model.specs.Generated.{generated_bit, state_after}
+use Rattle.circuit_gen.specs.Generated.{generated_bit, state_after}
 use Rattle.circuit_gen.proofs.draws.Draws.bits.Given as goal
 
 abbrev pub invariant-loop-i : goal.invariant-loop-i

@@ -1,7 +1,7 @@
 use Rattle.std.proofs.Common.{◌≡◌, ◌<◌, ◌-◌, ◌^◌, ℕ, List, Some, IfSome, sym, ◌∙◌, subst, ap}
 use Rattle.zk_port.specs.Disks.{LeavesOnly}
 use Rattle.zk_model.specs.declared.Span.{Span}
-use Rattle.claim_store.specs.Claims.{ClaimState, IsKept, SaysOldOrNew, state_of}
+use Rattle.claim_store.specs.Claims.{ClaimState, IsStoreKept, SaysOldOrNewClaims, state_of}
 use Rattle.claim_store.specs.Causes.{IsFree}
 use Rattle.claim_store.specs.Ranges.{with_span}
 use Rattle.claim_store.proofs.Claiming.{MayStand, claimed, durable_of, leaves, may_stand, reads, reads_still, refused, still, with_merged}
@@ -37,14 +37,14 @@ module _ (g : Over) (c : After-write_span g) (may : MayStand c.self.inside.total
 
   told : c.self.inside.journal.fault ≡ 0 → c.self.inside.total < 2 ^ 64 - 1 → (bytes : List ℕ) → (g.B.Disk.state c.self.inside.journal.disk).content ≡ Some bytes
       → IfSome (g.B.Disk.state c.write_span.new.journal.disk).content
-      (SaysOldOrNew c.self.inside.total c.self.inside.journal.begin c.self.inside.journal.slots c.self.inside.claims.items c.in-Ok.span)
+      (SaysOldOrNewClaims c.self.inside.total c.self.inside.journal.begin c.self.inside.journal.slots c.self.inside.claims.items c.in-Ok.span)
   told whole =
       reads g.B.Disk.state c.self.inside.journal c.self.inside.total c.self.inside.claims.items c.self.invariant c.in-Ok.span may whole
       c.write_span.new.journal c.write_span.ensures.begin c.write_span.ensures.slots c.deref-2.result.now ranges c.write_span.ensures.read
 
   left : c.self.inside.journal.fault ≡ 0 → c.self.inside.total < 2 ^ 64 - 1 → (bytes : List ℕ) → (g.B.Disk.state c.self.inside.journal.disk).content ≡ Some bytes
       → LeavesOnly (g.B.Disk.state c.self.inside.journal.disk) (g.B.Disk.state c.write_span.new.journal.disk)
-      (SaysOldOrNew c.self.inside.total c.self.inside.journal.begin c.self.inside.journal.slots c.self.inside.claims.items c.in-Ok.span)
+      (SaysOldOrNewClaims c.self.inside.total c.self.inside.journal.begin c.self.inside.journal.slots c.self.inside.claims.items c.in-Ok.span)
   left whole =
       leaves g.B.Disk.state c.self.inside.journal c.self.inside.total c.self.inside.claims.items c.self.invariant c.in-Ok.span may whole
       c.write_span.new.journal c.write_span.ensures.begin c.write_span.ensures.slots c.deref-2.result.now ranges c.write_span.ensures.any_moment
@@ -54,7 +54,7 @@ invariant_of-self g c =
     let was = c.self.inside in
     let e = c.in-Ok-write_span.ensures in
     let at = goal.at.invariant_of-self g c in
-    subst (λ (l : List Span). IsKept g.B.Disk.state c.write_span.new.journal was.total l) c.deref-2.ensures.value
+    subst (λ (l : List Span). IsStoreKept g.B.Disk.state c.write_span.new.journal was.total l) c.deref-2.ensures.value
     (claimed g.B.Disk.state was.journal was.total was.claims.items c.self.invariant c.in-Ok.span (may_of g at.In-Ok) (free_of g at.In-Ok).whole
     c.write_span.new.journal e.begin e.slots _ e.changes.content c.deref-2.result.now (ranges g at.After-write_span (may_of g at.In-Ok))
     e.recovered e.generation e.used e.fault e.durable)

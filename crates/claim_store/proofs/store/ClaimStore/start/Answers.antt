@@ -1,6 +1,6 @@
 use Rattle.std.proofs.Common.{◌≡◌, ℕ, List, Some, sym, ◌∙◌, subst}
-use Rattle.zk_model.specs.Journals.{first_bodies}
-use Rattle.zk_model.specs.Twins.{area_at}
+use Rattle.lease_journal.specs.Journals.{first_bodies}
+use Rattle.lease_journal.specs.Twins.{area_at}
 use Rattle.twin_journal.specs.States.{TwinState}
 use Rattle.twin_journal.specs.States as twin
 use Rattle.claim_store.specs.Claims.{AreInUse, SaysClaims}

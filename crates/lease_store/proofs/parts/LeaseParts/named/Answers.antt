@@ -1,7 +1,7 @@
 use Rattle.std.proofs.Common.{◌≡◌, ℕ, List, Some, ap, sym, ◌∙◌, subst}
 use Rattle.lease_words.specs.Calls.{base_of}
 use Rattle.lease_store.specs.Ceilings.{HasCeilingHeader}
-use Rattle.lease_store.specs.Desks.{Begins, IsDesk}
+use Rattle.lease_store.specs.Desks.{Begins, IsLeaseDesk}
 use Rattle.lease_store.specs.States.{PartsState}
 use Rattle.lease_store.proofs.Starting.{named}
 use Rattle.lease_store.proofs.parts.LeaseParts.named.Goals as goal
@@ -28,8 +28,8 @@ new-desk-requires g c =
       named = i.named;
       own = i.own ∙ ap (λ (p : PartsState g.row.B.Denot). p.table) is ∙ c.requires.table;
       made = ap (λ (p : PartsState g.row.B.Denot). p.passes) is ∙ c.requires.passes;
-      kept = subst (λ n. IsDesk g.B.Disk.state g.N.LeaseName.start g.N.LeaseName.id n g.N.LeaseName.base j v) total
-          (subst (λ n. IsDesk g.B.Disk.state g.N.LeaseName.start g.N.LeaseName.id k.total n j v) base
+      kept = subst (λ n. IsLeaseDesk g.B.Disk.state g.N.LeaseName.start g.N.LeaseName.id n g.N.LeaseName.base j v) total
+          (subst (λ n. IsLeaseDesk g.B.Disk.state g.N.LeaseName.start g.N.LeaseName.id k.total n j v) base
           (named g.B.Disk.state g.N.LeaseName.start g.N.LeaseName.id k.total (base_of p.words) j v begins i.base_is (i.kept g.N.LeaseName.id header)));
       never = λ sure. i.whole;
     }

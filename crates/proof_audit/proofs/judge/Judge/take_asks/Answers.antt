@@ -4,7 +4,7 @@ use Rattle.zk_model.specs.ServedVerifier.{round_replies}
 use Rattle.zk_model.specs.Frames as model
 use Rattle.proof_frames.specs.Frames.{frame_value}
 use Rattle.proof_audit.specs.declared.session.Stage.TheVariants as at
-use Rattle.proof_audit.specs.Stages.{Takes}
+use Rattle.proof_audit.specs.Stages.{StageTakes}
 use Rattle.zk_model.specs.Transcript.{Grant}
 use Rattle.zk_model.specs.Frames.{AreAsks}
 use Rattle.proof_frames.specs.declared.frame.Frame.{Frame}
@@ -30,7 +30,7 @@ returns-then-len-session c =
 
 pub returns : goal.returns
 returns c =
-    subst (λ (s : Session). Takes c.args.self.now (at.Asks c.args.session) (frame_value c.args.frame) (at.Replies s 0)) (sym c.with_replies.ensures)
+    subst (λ (s : Session). StageTakes c.args.self.now (at.Asks c.args.session) (frame_value c.args.frame) (at.Replies s 0)) (sym c.with_replies.ensures)
     (asks_last c.args.self.now c.args.session (record c.in_ok-session.session { replied = c.in_ok-replied.replied.replies; keys = c.in_ok-replied.replied.keys })
     c.args.frame c.requires.expected.1.0 c.in_ok-replied.ensures.file
     (record { granted = c.in_ok-session.ensures.grant; pushed = c.in_ok-session.ensures.asked; is = c.requires.expected.1.1; right = c.requires.expected.1.2 })

@@ -1,19 +1,16 @@
-use Rattle.std.proofs.Common.{◌≡◌, ◌+◌, ◌^◌, ◌<◌, length, sym, ◌∙◌, arith, subst}
-use Rattle.std.specs.Prelude.{Option, None, vec_capacity}
+use Rattle.std.proofs.Common.{◌≡◌, ◌+◌, ◌^◌, ◌<◌, length, sym, ◌∙◌, arith}
+use Rattle.std.specs.Prelude.{None, vec_capacity}
 use Rattle.proof_frames.specs.Frames.{frame_value}
-use Rattle.proof_frames.specs.Readings.{Gives}
 use Rattle.proof_frames.specs.Holding.{bytes_of}
-use Rattle.proof_frames.specs.declared.decoder.BadFrame.{BadFrame}
-use Rattle.proof_frames.proofs.Decoding.{none_is, reading, received_fits, under_way, holding_within, not_whole, gives_told}
+use Rattle.proof_frames.proofs.Decoding.{none_is, received_fits, under_way, not_whole, gives}
 use Rattle.proof_frames.proofs.decoder.Decoder.next.Goals as goal
 
 pub returns-clause-gives : goal.returns-clause-gives
 returns-clause-gives c =
     let d = c.self.inside in
     let fine : d.bad ≡ None = none_is d.bad (sym c.is_some.ensures ∙ c.if-is_some.false) in
-    subst (λ (b : Option BadFrame). Gives c.args.self.now (frame_value c.whole_frame-frame.result) (reading (d.received + d.taken) None b 0 c.whole_frame-frame.new.held)) (sym fine)
-    (gives_told d.expected d.bad c.in-Some.place d.received d.taken (vec_capacity d.pairs) d.held c.whole_frame-frame.new.held (frame_value c.whole_frame-frame.result) c.args.self.now
-    c.in-Some.is fine c.self.invariant.0 c.self.view_is c.whole_frame-frame.ensures.frame)
+    gives d.expected d.bad c.in-Some.place d.received d.taken (vec_capacity d.pairs) d.held c.args.self.now c.in-Some.is fine c.self.invariant.0 c.self.view_is
+    c.whole_frame-frame.new.held (frame_value c.whole_frame-frame.result) c.whole_frame-frame.ensures.frame
 
 pub whole_frame-frame-requires-clause-whole : goal.whole_frame-frame-requires-clause-whole
 whole_frame-frame-requires-clause-whole c =
@@ -21,7 +18,7 @@ whole_frame-frame-requires-clause-whole c =
     let fine : d.bad ≡ None = none_is d.bad (sym c.is_some.ensures ∙ c.if-is_some.false) in
     let under = under_way d.expected c.in-Some.place d.received d.bad d.taken d.held (vec_capacity d.pairs) c.in-Some.is c.self.invariant.0 in
     let all : d.taken ≡ length (bytes_of d.held) = under.all fine in
-    let within = holding_within c.in-Some.place d.held under.holds in
+    let within = under.holds.begun.within in
     omega (arith, all, within, c.frame_length.ensures)
 
 pub overflow_add-self : goal.overflow_add-self

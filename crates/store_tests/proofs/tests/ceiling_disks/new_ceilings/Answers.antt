@@ -1,6 +1,6 @@
 use Rattle.std.proofs.Common.{◌∙◌, ap, sym, subst, refl}
 use Rattle.zk_model.specs.declared.JournalKind.TheVariants.{Ceilings}
-use Rattle.zk_model.specs.Twins.{blank_twin_bytes, twin_begin, twin_slots_at}
+use Rattle.lease_journal.specs.Twins.{blank_twin_bytes, twin_begin, twin_slots_at}
 use Rattle.twin_journal.specs.Starts.{AreTidy}
 use Rattle.lease_store.proofs.Finding.{few_slots}
 use Rattle.store_tests.specs.declared.tests.disks.TheConstants.{ID}

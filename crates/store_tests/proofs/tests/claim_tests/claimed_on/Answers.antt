@@ -1,7 +1,7 @@
 use Rattle.std.proofs.Common.{◌≡◌, List, ℕ, Some, IfSome, ap, sym, ◌∙◌, subst, arith}
 use Rattle.zk_port.specs.Images.{Only}
 use Rattle.zk_model.specs.declared.JournalKind.TheVariants.{Claims}
-use Rattle.zk_model.specs.Twins.{HoldsTwin, SaysTwin}
+use Rattle.lease_journal.specs.Twins.{HoldsTwin, SaysTwin}
 use Rattle.twin_journal.specs.Starts.{AreTidy}
 use Rattle.twin_journal.proofs.TidyFiles.{said_is_tidy}
 use Rattle.claim_store.specs.Claims.{SaysClaims}

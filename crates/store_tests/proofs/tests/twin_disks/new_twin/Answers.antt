@@ -2,7 +2,7 @@ use Rattle.std.proofs.Common.{◌≡◌, ◌≤◌, ◌∙◌, ℕ, List, true, 
 use Rattle.std.proofs.lemmas.Bool.{and_from, le-leb}
 use Rattle.zk_model.specs.declared.JournalKind.TheVariants.{Claims}
 use Rattle.zk_model.specs.declared.limits.TheConstants.{MAX_SLOTS}
-use Rattle.zk_model.specs.Twins.{are_twin_slots, blank_twin_bytes, twin_begin, twin_slots_at}
+use Rattle.lease_journal.specs.Twins.{are_twin_slots, blank_twin_bytes, twin_begin, twin_slots_at}
 use Rattle.twin_journal.specs.Starts.{AreTidy}
 use Rattle.store_tests.specs.declared.tests.disks.TheConstants.{ID}
 use Rattle.store_tests.proofs.tests.twin_disks.new_twin.Goals as goal

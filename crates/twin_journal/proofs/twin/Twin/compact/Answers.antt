@@ -1,8 +1,8 @@
 use Rattle.std.proofs.Common.{◌≡◌, ◌<◌, ◌≤◌, ◌+◌, ◌*◌, ◌^◌, ℕ, List, not, true, refl, subst, arith}
 use Rattle.zk_port.specs.Disks.{LeavesOnly}
-use Rattle.zk_model.specs.Twins.{SaysOldOrNew, area_at}
+use Rattle.lease_journal.specs.Twins.{SaysOldOrNew, area_at}
 use Rattle.twin_journal.specs.Compactions.{IsTurned}
-use Rattle.twin_journal.specs.Filling.{AreSlotsOf}
+use Rattle.twin_journal.specs.Filling.{AreBodySlots}
 use Rattle.twin_journal.specs.States.{IsKept}
 use Rattle.twin_journal.proofs.SameAreas.{area_room}
 use Rattle.twin_journal.proofs.Turning.{goes_on_telling, kept_may, kept_turned, told_also}
@@ -71,7 +71,7 @@ returns-in-Ok-clause-exact g c =
     rw (← c.self.view_is) (λ bytes bodies kept small.
     let was = c.self.inside in
     told_also (IsTurned was.begin was.slots was.second c.saturating_add.result (g.F.Bodies.rest c.args.next.now))
-    (AreSlotsOf (area_at was.begin was.slots (not was.second)) was.slots (g.F.Bodies.rest c.args.next.now)) (g.B.Disk.state c.turn.new.disk).content
+    (AreBodySlots (area_at was.begin was.slots (not was.second)) was.slots (g.F.Bodies.rest c.args.next.now)) (g.B.Disk.state c.turn.new.disk).content
     (λ image turned. turned.exact)
     (c.in-Ok.ensures.turned was.begin was.second was.generation bodies bytes
     (kept_may g.B.Disk.state _ bodies bytes c.head_at.result c.saturating_add.result kept

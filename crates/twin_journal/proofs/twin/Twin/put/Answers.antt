@@ -2,7 +2,7 @@ use Rattle.std.proofs.Common.{◌≡◌, ◌<◌, ◌≤◌, ◌+◌, ◌*◌, �
 use Rattle.std.proofs.lemmas.List.{length-append}
 use Rattle.std.specs.Option.{option_map}
 use Rattle.zk_port.specs.Disks.{LeavesOnly}
-use Rattle.zk_model.specs.Twins.{SaysOldOrNew}
+use Rattle.lease_journal.specs.Twins.{SaysOldOrNew}
 use Rattle.lease_journal.specs.Steps.{slot_written}
 use Rattle.twin_journal.specs.States.{IsKept}
 use Rattle.twin_journal.proofs.Opening.{kept_told}

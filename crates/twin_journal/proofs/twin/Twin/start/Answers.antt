@@ -1,6 +1,6 @@
 use Rattle.std.proofs.Common.{refl, sym, ◌∙◌, subst}
 use Rattle.zk_port.specs.Images.{Only}
-use Rattle.zk_model.specs.Twins.{area_at}
+use Rattle.lease_journal.specs.Twins.{area_at}
 use Rattle.lease_journal.proofs.Putting.{length-first}
 use Rattle.twin_journal.proofs.Opening.{area_found, says_twin_slots, twin_recovered}
 use Rattle.twin_journal.proofs.twin.Twin.start.Goals as goal

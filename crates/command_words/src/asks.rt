@@ -1,0 +1,135 @@
+// What commands ask for: a record of each, of texts `T` and bits `B`, which code and contracts share.
+use crate::bits::BitsWord;
+use zk_model::{Kind, Params, Side};
+
+/// How many sessions a run serves at most.
+pub const MAX_SESSIONS: u32 = 65_536;
+
+/// For how many seconds a silent peer is waited for at most: a day.
+pub const MAX_TIMEOUT: u32 = 86_400;
+
+/// A rehearsal: the circuit's file, the public input bits and the private ones, the kind of the dealt files, and how many products a
+/// section has.
+#[derive(Debug, Drop)]
+pub struct RehearseAsk<T, B> {
+    pub circuit: T,
+    pub public: B,
+    pub bits: B,
+    pub kind: Kind,
+    pub section: u32,
+}
+
+/// A rehearsal of a generated circuit: how many gates it has, and the number that it is drawn from.
+#[derive(Clone, Copy, Debug)]
+pub struct GenerateAsk {
+    pub gates: u32,
+    pub number: u64,
+    pub kind: Kind,
+    pub section: u32,
+}
+
+/// An evaluation: the circuit's file and the bits.
+#[derive(Debug, Drop)]
+pub struct EvalAsk<T, B> {
+    pub circuit: T,
+    pub bits: B,
+}
+
+/// A dealing: the first part of the files' names, and what they are made for.
+#[derive(Debug, Drop)]
+pub struct DealAsk<T> {
+    pub name: T,
+    pub params: Params,
+}
+
+/// The options of a service: how many sessions, by how many workers at once, how many products a section has, for how many seconds a
+/// silent peer is waited for, what the names of the logs begin with, where they are kept, and whether standard error says how it goes.
+#[derive(Debug, Drop)]
+pub struct ServeOptions<T> {
+    pub sessions: u32,
+    pub workers: u32,
+    pub section: u32,
+    pub timeout: u32,
+    pub logs: Option<T>,
+    pub follow: bool,
+}
+
+/// A verifier that serves one statement: where provers connect, the verifier's file, the circuit's file, the public input bits, and the
+/// claimed outputs.
+#[derive(Debug, Drop)]
+pub struct ServeAsk<T, B> {
+    pub address: T,
+    pub file: T,
+    pub circuit: T,
+    pub public: B,
+    pub outputs: B,
+    pub options: ServeOptions<T>,
+}
+
+/// A verifier that serves several statements: where provers connect, its file, and the file of the statements.
+#[derive(Debug, Drop)]
+pub struct ServeManyAsk<T> {
+    pub address: T,
+    pub file: T,
+    pub statements: T,
+    pub options: ServeOptions<T>,
+}
+
+/// A prover: where the verifier listens, the prover's file, the circuit's file, the public input bits and the private ones, the claimed
+/// outputs, and for how many seconds a silent peer is waited for.
+#[derive(Debug, Drop)]
+pub struct ProveAsk<T, B> {
+    pub address: T,
+    pub file: T,
+    pub circuit: T,
+    pub public: B,
+    pub bits: B,
+    pub outputs: B,
+    pub timeout: u32,
+}
+
+/// An audit: the circuit's file, the public input bits, the claimed outputs, both dealt files, and a session's log.
+#[derive(Debug, Drop)]
+pub struct AuditAsk<T, B> {
+    pub circuit: T,
+    pub public: B,
+    pub outputs: B,
+    pub prover: T,
+    pub verifier: T,
+    pub log: T,
+}
+
+/// A migration: which side's dealt file it is, and the file.
+#[derive(Debug, Drop)]
+pub struct MigrateAsk<T> {
+    pub side: Side,
+    pub file: T,
+}
+
+/// A status: a dealt file, and a circuit's file, where one is named.
+#[derive(Debug, Drop)]
+pub struct StatusAsk<T> {
+    pub file: T,
+    pub circuit: Option<T>,
+}
+
+/// What can be asked for.
+#[derive(Debug, Drop)]
+pub enum Ask<T, B> {
+    Rehearse(RehearseAsk<T, B>),
+    Generate(GenerateAsk),
+    Eval(EvalAsk<T, B>),
+    Deal(DealAsk<T>),
+    Serve(ServeAsk<T, B>),
+    ServeMany(ServeManyAsk<T>),
+    Prove(ProveAsk<T, B>),
+    Audit(AuditAsk<T, B>),
+    Migrate(MigrateAsk<T>),
+    Status(StatusAsk<T>),
+}
+
+/// A command, where bits are given as `B`.
+pub type Command<B> = Ask<String, B>;
+
+/// A command as its words give it.
+pub type SaidCommand = Command<BitsWord>;

@@ -1,0 +1,261 @@
+// The commands as a table: a row says which words a command takes, how each is read, and what its help is.
+ghost use Rattle.std.specs.Prelude.{◌≡◌};
+ghost use Rattle.command_words.specs.Rows.{named, row_at, row_of};
+
+use crate::asks::{MAX_SESSIONS, MAX_TIMEOUT};
+use crate::help;
+use zk_model::{
+    MAX_BASE, MAX_DEALT_UNITS, MAX_GENERATED_GATES, MAX_HEIGHT, MAX_PASSES, MAX_SECTION_LENGTH,
+    MAX_TREES,
+};
+
+/// How a word is read: as it stands, as bits or the name of a file of them, as a side, or as a number between these two.
+#[derive(Clone, Copy)]
+pub enum WordKind {
+    Text,
+    Bits,
+    Side,
+    Number(u64, u64),
+}
+
+/// Whether a word has to stand, may be left out, or is this one where it is left out.
+#[derive(Clone, Copy)]
+pub enum Need<T> {
+    Always,
+    Optional,
+    Default(T),
+}
+
+/// A word of a command: its id, how it is read, and whether it has to stand.
+#[derive(Clone, Copy)]
+pub struct Column<T>(pub T, pub WordKind, pub Need<T>);
+
+/// A command: its name, its words in places, the options that a word follows, those that stand by themselves, and its help.
+#[derive(Clone, Copy)]
+pub struct Row<T, C, F> {
+    pub name: T,
+    pub places: C,
+    pub options: C,
+    pub flags: F,
+    pub help: T,
+}
+
+/// A word of the table.
+pub type TableColumn = Column<&'static str>;
+
+/// A row of the table.
+pub type TableRow = Row<&'static str, &'static [TableColumn], &'static [&'static str]>;
+
+pub const ADDRESS: TableColumn = Column("ADDRESS", WordKind::Text, Need::Always);
+
+pub const BITS: TableColumn = Column("BITS", WordKind::Bits, Need::Always);
+
+pub const CIRCUIT: TableColumn = Column("CIRCUIT", WordKind::Text, Need::Always);
+
+pub const FILE: TableColumn = Column("FILE", WordKind::Text, Need::Always);
+
+pub const LOG: TableColumn = Column("LOG", WordKind::Text, Need::Always);
+
+pub const NAME: TableColumn = Column("NAME", WordKind::Text, Need::Always);
+
+pub const OUTPUTS: TableColumn = Column("OUTPUTS", WordKind::Bits, Need::Always);
+
+pub const PROVER_FILE: TableColumn = Column("PROVERFILE", WordKind::Text, Need::Always);
+
+pub const SIDE: TableColumn = Column("SIDE", WordKind::Side, Need::Always);
+
+pub const STATEMENTS: TableColumn = Column("STATEMENTS", WordKind::Text, Need::Always);
+
+pub const VERIFIER_FILE: TableColumn = Column("VERIFIERFILE", WordKind::Text, Need::Always);
+
+pub const SOME_BITS: TableColumn = Column("BITS", WordKind::Bits, Need::Optional);
+
+pub const SOME_CIRCUIT: TableColumn = Column("CIRCUIT", WordKind::Text, Need::Optional);
+
+pub const BASE: TableColumn = Column(
+    "base",
+    WordKind::Number(10, MAX_BASE as u64),
+    Need::Optional,
+);
+
+pub const GATES: TableColumn = Column(
+    "gates",
+    WordKind::Number(1, MAX_GENERATED_GATES as u64),
+    Need::Optional,
+);
+
+pub const HEIGHT: TableColumn = Column(
+    "height",
+    WordKind::Number(1, MAX_HEIGHT as u64),
+    Need::Optional,
+);
+
+pub const LOGS: TableColumn = Column("logs", WordKind::Text, Need::Optional);
+
+pub const NUMBER: TableColumn = Column("number", WordKind::Number(0, u64::MAX), Need::Optional);
+
+pub const PUBLIC: TableColumn = Column("public", WordKind::Bits, Need::Default("none"));
+
+pub const SECTION: TableColumn = Column(
+    "section",
+    WordKind::Number(1, MAX_SECTION_LENGTH as u64),
+    Need::Default("1048576"),
+);
+
+pub const SESSIONS: TableColumn = Column(
+    "sessions",
+    WordKind::Number(1, MAX_SESSIONS as u64),
+    Need::Always,
+);
+
+pub const SOME_PUBLIC: TableColumn = Column("public", WordKind::Bits, Need::Optional);
+
+pub const TIMEOUT: TableColumn = Column(
+    "timeout",
+    WordKind::Number(1, MAX_TIMEOUT as u64),
+    Need::Default("120"),
+);
+
+pub const TREES: TableColumn = Column(
+    "trees",
+    WordKind::Number(1, MAX_TREES as u64),
+    Need::Optional,
+);
+
+pub const UNITS: TableColumn = Column("units", WordKind::Number(1, MAX_DEALT_UNITS), Need::Always);
+
+pub const WORKERS: TableColumn = Column(
+    "workers",
+    WordKind::Number(1, MAX_PASSES as u64),
+    Need::Default("4"),
+);
+
+pub const EXTENDED: &str = "extended";
+
+pub const FOLLOW: &str = "follow";
+
+pub const REHEARSE: TableRow = Row {
+    name: "rehearse",
+    places: &[SOME_CIRCUIT, SOME_BITS],
+    options: &[SECTION, SOME_PUBLIC, GATES, NUMBER],
+    flags: &[EXTENDED],
+    help: help::REHEARSE,
+};
+
+pub const EVAL: TableRow = Row {
+    name: "eval",
+    places: &[CIRCUIT, BITS],
+    options: &[],
+    flags: &[],
+    help: help::EVAL,
+};
+
+pub const DEAL: TableRow = Row {
+    name: "deal",
+    places: &[NAME],
+    options: &[UNITS, TREES, HEIGHT, BASE],
+    flags: &[],
+    help: help::DEAL,
+};
+
+pub const SERVE: TableRow = Row {
+    name: "serve",
+    places: &[ADDRESS, FILE, CIRCUIT, OUTPUTS],
+    options: &[PUBLIC, SESSIONS, WORKERS, SECTION, TIMEOUT, LOGS],
+    flags: &[FOLLOW],
+    help: help::SERVE,
+};
+
+pub const SERVE_MANY: TableRow = Row {
+    name: "serve-many",
+    places: &[ADDRESS, FILE, STATEMENTS],
+    options: &[SESSIONS, WORKERS, SECTION, TIMEOUT, LOGS],
+    flags: &[FOLLOW],
+    help: help::SERVE_MANY,
+};
+
+pub const PROVE: TableRow = Row {
+    name: "prove",
+    places: &[ADDRESS, FILE, CIRCUIT, BITS, OUTPUTS],
+    options: &[TIMEOUT, PUBLIC],
+    flags: &[],
+    help: help::PROVE,
+};
+
+pub const AUDIT: TableRow = Row {
+    name: "audit",
+    places: &[CIRCUIT, OUTPUTS, PROVER_FILE, VERIFIER_FILE, LOG],
+    options: &[PUBLIC],
+    flags: &[],
+    help: help::AUDIT,
+};
+
+pub const MIGRATE: TableRow = Row {
+    name: "migrate",
+    places: &[SIDE, FILE],
+    options: &[],
+    flags: &[],
+    help: help::MIGRATE,
+};
+
+pub const STATUS: TableRow = Row {
+    name: "status",
+    places: &[FILE, SOME_CIRCUIT],
+    options: &[],
+    flags: &[],
+    help: help::STATUS,
+};
+
+/// A command's name.
+#[derive(Clone, Copy)]
+pub enum Name {
+    Rehearse,
+    Eval,
+    Deal,
+    Serve,
+    ServeMany,
+    Prove,
+    Audit,
+    Migrate,
+    Status,
+}
+
+/// Each of them.
+pub const NAMES: &[Name] = &[
+    Name::Rehearse,
+    Name::Eval,
+    Name::Deal,
+    Name::Serve,
+    Name::ServeMany,
+    Name::Prove,
+    Name::Audit,
+    Name::Migrate,
+    Name::Status,
+];
+
+impl Name {
+    /// The command that a word names.
+    #[tactic(auto, unfolding(crate::specs::Rows::named))]
+    pub fn named(word: &str) -> Option<Self>
+        ensures { result ≡ named word.now }
+    {
+        NAMES.iter().copied().find(|name| name.row().name == word)
+    }
+
+    /// Its row of the table.
+    pub fn row(self) -> TableRow
+        ensures { row_at result ≡ row_of self }
+    {
+        match self {
+            Name::Rehearse => REHEARSE,
+            Name::Eval => EVAL,
+            Name::Deal => DEAL,
+            Name::Serve => SERVE,
+            Name::ServeMany => SERVE_MANY,
+            Name::Prove => PROVE,
+            Name::Audit => AUDIT,
+            Name::Migrate => MIGRATE,
+            Name::Status => STATUS,
+        }
+    }
+}

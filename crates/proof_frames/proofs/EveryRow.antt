@@ -1,0 +1,182 @@
+-- What holds of the row of every frame: which byte tells it, and which bytes may come.
+use Rattle.std.proofs.Common.{◌≡◌, ℕ, zero, suc, ◌-◌, ◌*◌, ◌<◌, ◌≤◌, ◌⊎◌, inl, inr, Bool, true, false, nat_eq, List, [], ◌∷◌, ◌++◌, map, length, get_or, refl, sym, ◌∙◌, arith, subst}
+use Rattle.std.specs.Int.{w32, to_le_bytes}
+use Rattle.std.specs.List.{AllByRecursion}
+use Rattle.std.proofs.lemmas.Bool.{cases_lt, false≢true}
+use Rattle.std.proofs.lemmas.List.{get_or-replicate, length-replicate, get_or_append_left, get_or-append_right}
+use Rattle.std.proofs.lemmas.List.Elements.{recursion_from_All}
+use Rattle.zk_model.specs.declared.Expect.{Expect}
+use Rattle.zk_model.specs.declared.Expect.TheVariants as expect
+use Rattle.zk_model.specs.declared.FrameKind.{FrameKind}
+use Rattle.zk_model.specs.declared.FrameKind.TheVariants as kind
+use Rattle.zk_model.specs.Transcript.{kind_number}
+use Rattle.proof_frames.specs.declared.row.Field.{Field}
+use Rattle.proof_frames.specs.declared.row.Field.TheVariants as field
+use Rattle.proof_frames.specs.declared.row.Payload.{Payload}
+use Rattle.proof_frames.specs.declared.row.Payload.TheVariants as payload
+use Rattle.proof_frames.specs.declared.row.Row.{Row}
+use Rattle.proof_frames.specs.declared.row.Slot.{Slot}
+use Rattle.proof_frames.specs.declared.row.Slot.TheVariants as slot
+use Rattle.proof_frames.specs.Holding.{is_list, elements_in, longest}
+use Rattle.proof_frames.specs.Rows.{row_of, told_at, told, header, payload_length, payload_fields, row_fields, field_slots, frame_slots, free, repeat, exactly}
+use Rattle.proof_frames.proofs.Octets.{IsByte, half_octets}
+use Rattle.proof_frames.proofs.Fields.{slots, element_slot}
+
+-- What holds of the row at each place told by 0, of the long form of a hello, and in a grant's place of a refusal, holds whatever
+-- byte tells it.
+pub every_row : (P : Expect → Row → Type 0) → P expect.Hello (row_of expect.Hello 129) → P expect.Grant (row_of expect.Grant 10)
+    → ((place : Expect) → P place (row_of place 0)) → (place : Expect) (byte : ℕ) → P place (row_of place byte)
+every_row P long refusal other expect.Hello low = by_low (nat_eq low 129) refl
+  where
+    by_low : (b : Bool) → nat_eq low 129 ≡ b → P expect.Hello (row_of expect.Hello low)
+    by_low true e = rw e long
+    by_low false e = rw e (other expect.Hello)
+every_row P long refusal other expect.Grant first = by_first (nat_eq first 10) refl
+  where
+    by_first : (b : Bool) → nat_eq first 10 ≡ b → P expect.Grant (row_of expect.Grant first)
+    by_first true e = rw e refusal
+    by_first false e = rw e (other expect.Grant)
+every_row P long refusal other place byte = other place
+
+-- ---- the byte that tells the row
+
+-- it is one of the first two
+pub told_early : (place : Expect) → told_at place ≤ 1
+told_early expect.Hello = omega arith
+told_early place = omega arith
+
+-- what comes after it does not change it
+pub told_stays : (place : Expect) (bytes more : List ℕ) → told_at place < length bytes → told place (bytes ++ more) ≡ told place bytes
+told_stays place bytes more some = get_or_append_left bytes more 0 (told_at place) some
+
+-- a header tells its row
+pub header_tells : (place : Expect) (byte : ℕ) → row_of place (told place (header (row_of place byte))) ≡ row_of place byte
+header_tells = every_row (λ place row. row_of place (told place (header row)) ≡ row) refl refl by_place
+  where
+    by_place : (place : Expect) → row_of place (told place (header (row_of place 0))) ≡ row_of place 0
+    by_place expect.Hello = refl
+    by_place place = refl
+
+-- before it all rows of a place allow the same
+pub early_slot : (place : Expect) (one other n : ℕ) → n < told_at place → get_or (frame_slots place one) n free ≡ get_or (frame_slots place other) n free
+early_slot place one other (suc n) early = absurd (let first = told_early place in omega arith)
+early_slot place one other zero early = first place one early ∙ sym (first place other early)
+  where
+    by_place : (place : Expect) → 0 < told_at place → get_or (frame_slots place 0) 0 free ≡ get_or (frame_slots place 0) 0 free
+    by_place place some = refl
+
+    first : (place : Expect) (byte : ℕ) → 0 < told_at place → get_or (frame_slots place byte) 0 free ≡ get_or (frame_slots place 0) 0 free
+    first = every_row (λ place row. 0 < told_at place → get_or (slots (row_fields row)) 0 free ≡ get_or (frame_slots place 0) 0 free)
+        (λ some. refl) (λ some. absurd (omega arith)) by_place
+
+-- ---- what all rows of a place have in common
+
+-- whether they are elements alone, and how many
+pub same_list : (place : Expect) (byte : ℕ) → is_list (row_of place byte).payload ≡ is_list (longest place)
+same_list = every_row (λ place row. is_list row.payload ≡ is_list (longest place)) refl refl by_place
+  where
+    by_place : (place : Expect) → is_list (row_of place 0).payload ≡ is_list (longest place)
+    by_place expect.Hello = refl
+    by_place place = refl
+
+-- where they are, the row is that of the longest frame
+pub list_row : (place : Expect) (byte : ℕ) → is_list (longest place) ≡ true → (row_of place byte).payload ≡ payload.Elements (elements_in (longest place))
+list_row = every_row (λ place row. is_list (longest place) ≡ true → row.payload ≡ payload.Elements (elements_in (longest place)))
+    (λ is. absurd (false≢true is)) (λ is. absurd (false≢true is)) by_place
+  where
+    by_place : (place : Expect) → is_list (longest place) ≡ true → (row_of place 0).payload ≡ payload.Elements (elements_in (longest place))
+    by_place expect.Hello is = absurd (false≢true is)
+    by_place expect.Grant is = absurd (false≢true is)
+    by_place (expect.Ask height trees left) is = absurd (false≢true is)
+    by_place (expect.Reply height trees left) is = absurd (false≢true is)
+    by_place expect.Verdict is = absurd (false≢true is)
+    by_place place is = refl
+
+-- ---- some byte may come everywhere
+
+-- a range that has bytes alone
+abbrev pub IsSoundField : Field → Type 0
+IsSoundField (field.Bytes count size least most) = (least ≤ most) × (most < 256)
+IsSoundField field.Element = Unit {0}
+
+-- at n such a range, or the last byte of an element after seven others
+abbrev pub IsSoundSlot : ℕ → Slot → Type 0
+IsSoundSlot n (slot.Range least most) = (least ≤ most) × (most < 256)
+IsSoundSlot n slot.Last = 7 ≤ n
+
+later : (s : Slot) (k n : ℕ) → k ≤ n → IsSoundSlot k s → IsSoundSlot n s
+later (slot.Range least most) k n less sound = sound
+later slot.Last k n less sound = omega arith
+
+-- the fields of all payloads
+abbrev AreSound : Payload → Type 0
+AreSound (payload.Elements count) = Unit {0}
+AreSound (payload.Fields times first second) = IsSoundField first × IsSoundField second
+
+any_sound : (0 ≤ 255) × (255 < 256)
+any_sound = (omega arith, omega arith)
+
+sound_payload : (place : Expect) (byte : ℕ) → AreSound (row_of place byte).payload
+sound_payload = every_row (λ place row. AreSound row.payload) (any_sound, any_sound) ((omega arith, omega arith), any_sound) by_place
+  where
+    by_place : (place : Expect) → AreSound (row_of place 0).payload
+    by_place expect.Hello = (any_sound, any_sound)
+    by_place expect.Grant = (any_sound, any_sound)
+    by_place (expect.Ask height trees left) = ((omega arith, omega arith), tt)
+    by_place (expect.Reply height trees left) = (any_sound, tt)
+    by_place expect.Verdict = ((omega arith, omega arith), any_sound)
+    by_place place = tt
+
+-- the slots of fields are, where the fields are
+sound_field : (one : Field) → IsSoundField one → (n : ℕ) → n < length (field_slots one) → IsSoundSlot n (get_or (field_slots one) n free)
+sound_field (field.Bytes count size least most) sound n less =
+    subst (IsSoundSlot n) (sym (get_or-replicate (size * count) n (slot.Range least most) free
+    (let sized = length-replicate (size * count) (slot.Range least most) in omega arith))) sound
+sound_field field.Element sound n less = by_place (cases_lt n 7)
+  where
+    by_place : (n < 7) ⊎ (7 ≤ n) → IsSoundSlot n (get_or (field_slots field.Element) n free)
+    by_place (inl early) = subst (IsSoundSlot n) (sym (element_slot n early)) any_sound
+    by_place (inr late) =
+        let at : 7 ≡ n = omega arith in
+        subst (λ (m : ℕ). IsSoundSlot m (get_or (field_slots field.Element) m free)) at (let e : 7 ≤ 7 = omega arith in e)
+
+sound_slots : (fields : List Field) → AllByRecursion IsSoundField fields → (n : ℕ) → IsSoundSlot n (get_or (slots fields) n free)
+sound_slots [] each n = any_sound
+sound_slots (one ∷ fields) each n = by_place (cases_lt n (length (field_slots one))) (sound_slots fields each.1 (n - length (field_slots one)))
+  where
+    by_place : (n < length (field_slots one)) ⊎ (length (field_slots one) ≤ n) → IsSoundSlot (n - length (field_slots one)) (get_or (slots fields) (n - length (field_slots one)) free)
+        → IsSoundSlot n (get_or (slots (one ∷ fields)) n free)
+    by_place (inl here) behind = subst (IsSoundSlot n) (sym (get_or_append_left (field_slots one) (slots fields) free n here)) (sound_field one each.0 n here)
+    by_place (inr past) behind =
+        let k = n - length (field_slots one) in
+        subst (IsSoundSlot n) (sym (get_or-append_right (field_slots one) (slots fields) (length (field_slots one)) n free refl past))
+        (later (get_or (slots fields) k free) k n (omega arith) behind)
+
+sound_append : (some more : List Field) → AllByRecursion IsSoundField some → AllByRecursion IsSoundField more → AllByRecursion IsSoundField (some ++ more)
+sound_append [] more all each = each
+sound_append (one ∷ some) more all each = (all.0, sound_append some more all.1 each)
+
+sound_repeat : (fields : List Field) (count : ℕ) → AllByRecursion IsSoundField fields → AllByRecursion IsSoundField (repeat count fields)
+sound_repeat fields zero each = tt
+sound_repeat fields (suc count) each = sound_append fields (repeat count fields) each (sound_repeat fields count each)
+
+sound_fields : (p : Payload) → AreSound p → AllByRecursion IsSoundField (payload_fields p)
+sound_fields (payload.Elements count) sound = sound_repeat (field.Element ∷ []) count (tt, tt)
+sound_fields (payload.Fields times first second) sound = sound_repeat (first ∷ second ∷ []) times (sound.0, (sound.1, tt))
+
+-- the bytes of a header
+kind_small : (frame : FrameKind) → kind_number frame < 256
+kind_small kind.Hello = omega arith
+kind_small frame = omega arith
+
+sound_exact : (bytes : List ℕ) → AllByRecursion IsByte bytes → AllByRecursion IsSoundField (map exactly bytes)
+sound_exact [] small = tt
+sound_exact (byte ∷ bytes) small = ((omega arith, small.0), sound_exact bytes small.1)
+
+pub sound_at : (place : Expect) (byte n : ℕ) → IsSoundSlot n (get_or (frame_slots place byte) n free)
+sound_at place byte n =
+    let row = row_of place byte in
+    sound_slots (row_fields row)
+    (sound_append (map exactly (header row)) (payload_fields row.payload)
+    (sound_exact (header row) (kind_small row.kind, recursion_from_All IsByte (to_le_bytes w32 (payload_length row.payload)) (half_octets (payload_length row.payload))))
+    (sound_fields row.payload (sound_payload place byte))) n

@@ -1,0 +1,361 @@
+// The rows of frames: for each place the kind and the fields of the frames that it allows.
+ghost use Rattle.std.specs.Prelude.{◌≡◌, ◌↔◌, ℕ, ◌+◌, ◌-◌, ◌*◌, ◌^◌, ◌<◌, ◌≤◌, ◌++◌, ◌∷◌, [], length, drop, get_or, IsTrue, IfSome, IfNone, ◌≢◌};
+ghost use Rattle.std.specs.Int.{w64, from_le_bytes};
+ghost use Rattle.zk_model.specs.Field.{IsElement};
+ghost use Rattle.zk_model.specs.declared.limits.TheConstants.{MAX_PAYLOAD};
+ghost use Rattle.proof_frames.specs.Readings.{IsShortPlace};
+ghost use Rattle.proof_frames.specs.Rows.{told_at};
+
+use crate::frame::number_of;
+use mersenne_field::Fe;
+use zk_model::{Expect, FrameKind};
+
+/// What stands in a payload: so many times so many bytes, each in a range; or an element, low byte first.
+#[derive(Clone, Copy, Debug, PartialEq, Eq)]
+pub(crate) enum Field {
+    Bytes {
+        count: usize,
+        size: usize,
+        least: u8,
+        most: u8,
+    },
+    Element,
+}
+
+/// What stands after a frame's header.
+#[derive(Clone, Copy, Debug, PartialEq, Eq)]
+pub(crate) enum Payload {
+    /// So many elements.
+    Elements {
+        count: usize,
+    },
+    /// So many times two fields.
+    Fields {
+        times: usize,
+        first: Field,
+        second: Field,
+    },
+}
+
+/// The kind of a frame, and what stands after its header.
+#[derive(Clone, Copy, Debug, PartialEq, Eq)]
+pub(crate) struct Row {
+    pub(crate) kind: FrameKind,
+    pub(crate) payload: Payload,
+}
+
+/// What may come at one byte of a frame: a byte in a range, or the last byte of an element.
+#[derive(Clone, Copy, Debug, PartialEq, Eq)]
+pub(crate) enum Slot {
+    Range { least: u8, most: u8 },
+    Last,
+}
+
+/// The place of the byte that tells the row of a frame.
+pub(crate) fn told_at(place: Expect) -> usize
+    ensures { result ≡ told_at place }
+{
+    match place {
+        Expect::Hello => 1,
+        _ => 0,
+    }
+}
+
+/// The 8 bytes of an element of which 7 are there.
+pub(crate) fn completed(part: &[u8], last: u8) -> Option<[u8; 8]>
+    ensures word { IfSome result (λ word. (word ≡ part.now ++ last ∷ []) × (length part.now ≡ 7)) }
+    ensures none { IfNone result (length part.now ≢ 7) }
+{
+    let [b0, b1, b2, b3, b4, b5, b6] = part else {
+        return None;
+    };
+    Some([*b0, *b1, *b2, *b3, *b4, *b5, *b6, last])
+}
+
+/// Whether the last 7 bytes and one more spell an element.
+fn ends_element(bytes: &[u8], last: u8) -> bool
+    requires { 7 ≤ length bytes.now }
+    ensures { IsTrue result ↔ IsElement (from_le_bytes w64
+        (drop (length bytes.now - 7) bytes.now ++ last ∷ [])) }
+{
+    match completed(&bytes[bytes.len() - 7..], last) {
+        Some(word) => Fe::from_le(&word).is_some(),
+        None => false,
+    }
+}
+
+impl Slot {
+    ghost use Rattle.proof_frames.specs.Rows.{May};
+    ghost use Rattle.proof_frames.specs.declared.row.Slot.TheVariants as slot;
+
+    /// Whether a byte may come after others.
+    pub(crate) fn allows(self, before: &[u8], byte: u8) -> bool
+        requires { self ≡ slot.Last → 7 ≤ length before.now }
+        ensures { IsTrue result ↔ May self before.now byte }
+    {
+        match self {
+            Slot::Range { least, most } => least <= byte && byte <= most,
+            Slot::Last => ends_element(before, byte),
+        }
+    }
+}
+
+impl Field {
+    ghost use Rattle.proof_frames.specs.Rows.{any, between, free, width, IsFree, field_slots};
+
+    /// So many bytes of any value.
+    fn any(count: usize) -> Self
+        ensures { result ≡ any count }
+    {
+        Field::Bytes {
+            count,
+            size: 1,
+            least: 0,
+            most: 255,
+        }
+    }
+
+    /// A byte in a range.
+    fn between(least: u8, most: u8) -> Self
+        ensures { result ≡ between least most }
+    {
+        Field::Bytes {
+            count: 1,
+            size: 1,
+            least,
+            most,
+        }
+    }
+
+    /// How many bytes it has.
+    fn width(self) -> usize
+        requires { width self ≤ MAX_PAYLOAD }
+        ensures { result ≡ width self }
+    {
+        match self {
+            Field::Bytes { count, size, .. } => size * count,
+            Field::Element => 8,
+        }
+    }
+
+    /// Whether its bytes may be any.
+    fn is_free(self) -> bool
+        ensures { IsTrue result → IsFree self }
+    {
+        match self {
+            Field::Bytes { least, most, .. } => least == 0 && most == 255,
+            Field::Element => false,
+        }
+    }
+
+    /// What may come at one of its bytes.
+    fn slot(self, at: usize) -> Slot
+        requires { at < width self }
+        ensures { result ≡ get_or (field_slots self) at free }
+    {
+        match self {
+            Field::Bytes { least, most, .. } => Slot::Range { least, most },
+            Field::Element if at == 7 => Slot::Last,
+            Field::Element => Slot::Range {
+                least: 0,
+                most: 255,
+            },
+        }
+    }
+}
+
+impl Payload {
+    ghost use Rattle.std.specs.Prelude.{flat_map};
+    ghost use Rattle.proof_frames.specs.Rows.{one_field, free, width, field_slots, payload_fields, payload_length};
+    ghost use Rattle.proof_frames.specs.declared.row.Field.TheVariants as field;
+    ghost use Rattle.proof_frames.specs.declared.row.Payload.TheVariants as payload;
+
+    /// One field alone.
+    fn one_field(field: Field) -> Self
+        ensures { result ≡ one_field field }
+    {
+        Payload::Fields {
+            times: 1,
+            first: field,
+            second: Field::any(0),
+        }
+    }
+
+    /// For each tree so many bytes for each level, each up to the most, and an element.
+    fn trees(trees: usize, height: usize, size: usize, most: u8) -> Self
+        ensures { result ≡ payload.Fields trees (field.Bytes height size 0 most) field.Element }
+    {
+        let first = Field::Bytes {
+            count: height,
+            size,
+            least: 0,
+            most,
+        };
+        Payload::Fields {
+            times: trees,
+            first,
+            second: Field::Element,
+        }
+    }
+
+    /// How many bytes it has.
+    fn length(self) -> usize
+        requires { payload_length self ≤ MAX_PAYLOAD }
+        ensures { result ≡ payload_length self }
+    {
+        match self {
+            Payload::Elements { count } => 8 * count,
+            Payload::Fields { times: 0, .. } => 0,
+            Payload::Fields {
+                times,
+                first,
+                second,
+            } => times * (first.width() + second.width()),
+        }
+    }
+
+    /// What may come at one of its bytes.
+    fn slot(self, at: usize) -> Slot
+        requires short { payload_length self ≤ MAX_PAYLOAD }
+        requires within { at < payload_length self }
+        ensures { result ≡ get_or (flat_map field_slots (payload_fields self)) at free }
+    {
+        match self {
+            Payload::Elements { .. } => Field::Element.slot(at % 8),
+            Payload::Fields { first, second, .. } => {
+                let width = first.width();
+                let at = at % (width + second.width());
+                if at < width {
+                    first.slot(at)
+                } else {
+                    second.slot(at - width)
+                }
+            }
+        }
+    }
+
+    /// How many bytes from one on may be any.
+    pub(crate) fn free_run(self, at: usize) -> usize
+        requires short { payload_length self ≤ MAX_PAYLOAD }
+        requires within { at < payload_length self }
+        ensures { (j : ℕ) → j < result
+            → get_or (flat_map field_slots (payload_fields self)) (at + j) free ≡ free }
+    {
+        let Payload::Fields { first, second, .. } = self else {
+            return 0;
+        };
+        if !first.is_free() {
+            return 0;
+        }
+        let width = first.width();
+        let at = at % (width + second.width());
+        if at < width { width - at } else { 0 }
+    }
+}
+
+impl Row {
+    ghost use Rattle.std.specs.Prelude.{flat_map};
+    ghost use Rattle.proof_frames.specs.Rows.{row_of, row_fields, header, field_slots, free, payload_length};
+    ghost use Rattle.proof_frames.specs.Holding.{raw_length, elements_in};
+
+    /// The row of the frame at a place, of which the byte that tells it is known. A further frame is a row here.
+    pub(crate) fn at(place: Expect, byte: u8) -> Self
+        requires { IsShortPlace place }
+        ensures { result ≡ row_of place byte }
+    {
+        let (kind, payload) = match place {
+            Expect::Hello if byte == 129 => (FrameKind::Hello, Payload::one_field(Field::any(129))),
+            Expect::Hello => (FrameKind::Hello, Payload::one_field(Field::any(97))),
+            Expect::Grant if byte == 10 => {
+                (FrameKind::Refuse, Payload::one_field(Field::between(1, 4)))
+            }
+            Expect::Grant => (FrameKind::Grant, Payload::one_field(Field::any(16))),
+            Expect::Ask { height, trees, .. } => {
+                (FrameKind::ExtendAsk, Payload::trees(trees, height, 1, 1))
+            }
+            Expect::Reply { height, trees, .. } => {
+                (
+                    FrameKind::ExtendReply,
+                    Payload::trees(trees, height, 32, 255),
+                )
+            }
+            Expect::Corrections { count } => (FrameKind::Corrections, Payload::Elements { count }),
+            Expect::Challenge => (FrameKind::Challenge, Payload::Elements { count: 1 }),
+            Expect::Sums { sections } => {
+                (
+                    FrameKind::Sums,
+                    Payload::Elements {
+                        count: 2 * sections,
+                    },
+                )
+            }
+            Expect::Openings { count } => (FrameKind::Openings, Payload::Elements { count }),
+            Expect::Verdict => {
+                let (first, second) = (Field::between(0, 2), Field::any(4));
+                (
+                    FrameKind::Verdict,
+                    Payload::Fields {
+                        times: 1,
+                        first,
+                        second,
+                    },
+                )
+            }
+        };
+        Row { kind, payload }
+    }
+
+    /// How many bytes the frame has.
+    pub(crate) fn length(self) -> usize
+        requires { payload_length self.payload ≤ MAX_PAYLOAD }
+        ensures { result ≡ 5 + payload_length self.payload }
+    {
+        5 + self.payload.length()
+    }
+
+    /// How many of its bytes are held as they come: all, but elements.
+    pub(crate) fn raw_length(self) -> usize
+        requires { payload_length self.payload ≤ MAX_PAYLOAD }
+        ensures { result ≡ raw_length self.payload }
+    {
+        match self.payload {
+            Payload::Elements { .. } => 5,
+            Payload::Fields { .. } => self.length(),
+        }
+    }
+
+    /// How many elements are held as elements.
+    pub(crate) fn elements(self) -> usize
+        ensures { result ≡ elements_in self.payload }
+    {
+        match self.payload {
+            Payload::Elements { count } => count,
+            Payload::Fields { .. } => 0,
+        }
+    }
+
+    /// The bytes of the kind and of the length.
+    fn header(self) -> [u8; 5]
+        requires { payload_length self.payload ≤ MAX_PAYLOAD }
+        ensures { result ≡ header self }
+    {
+        let [l0, l1, l2, l3] = (self.payload.length() as u32).to_le_bytes();
+        [number_of(self.kind), l0, l1, l2, l3]
+    }
+
+    /// What may come at one of its bytes.
+    pub(crate) fn slot(self, at: usize) -> Slot
+        requires short { payload_length self.payload ≤ MAX_PAYLOAD }
+        requires within { at < 5 + payload_length self.payload }
+        ensures { result ≡ get_or (flat_map field_slots (row_fields self)) at free }
+    {
+        if at < 5 {
+            let byte = self.header()[at];
+            return Slot::Range {
+                least: byte,
+                most: byte,
+            };
+        }
+        self.payload.slot(at - 5)
+    }
+}
