@@ -1,5 +1,5 @@
 -- The nodes below a row.
-use Rattle.std.proofs.Common.{◌≡◌, ◌≢◌, ℕ, zero, suc, ◌-◌, ◌*◌, ◌^◌, ◌<◌, ◌≤◌, Bool, true, false, List, [], ◌∷◌, ◌++◌, map, length, get_or, set, fold, refl, sym, ◌∙◌, ap, subst, arith, pow-suc}
+use Rattle.std.proofs.Common.{◌≡◌, ◌≢◌, ℕ, zero, suc, ◌-◌, ◌*◌, ◌^◌, ◌<◌, ◌≤◌, Bool, true, false, List, [], ◌∷◌, ◌++◌, map, length, drop, get_or, set, fold, refl, sym, ◌∙◌, ap, subst, arith, pow-suc}
 use Rattle.std.proofs.lemmas.List.{map-append}
 use Rattle.zk_model.specs.Bytes.{LeftRight, xor_bytes}
 use Rattle.zk_model.specs.Tree.{child_of, leaf_value}
@@ -13,22 +13,6 @@ pow_more zero some = absurd (some refl)
 pow_more (suc height) some =
     let next = pow-suc 2 height in let less : suc height - 1 ≡ height = omega arith in
     let same = ap (λ n. 2 ^ n) less in omega (arith, next, same)
-
-pub pow_twice : (height : ℕ) → height ≢ 0 → height ≢ 1 → 2 ^ height ≡ 4 * 2 ^ (height - 2)
-pow_twice zero some more = absurd (some refl)
-pow_twice (suc zero) some more = absurd (more refl)
-pow_twice (suc (suc height)) some more =
-    let next = pow-suc 2 (suc height) in let last = pow-suc 2 height in let less : suc (suc height) - 2 ≡ height = omega arith in
-    let same = ap (λ n. 2 ^ n) less in omega (arith, next, last, same)
-
--- of two levels or more one is less than all
-one_less : (height : ℕ) → height ≢ 0 → height ≢ 1 → height - 1 ≢ 0
-one_less zero some more = absurd (some refl)
-one_less (suc zero) some more = absurd (more refl)
-one_less (suc (suc height)) some more = λ none. omega (arith, none)
-
-fewer : (height : ℕ) → height - 2 ≡ height - 1 - 1
-fewer height = omega arith
 
 -- ---- nodes
 
@@ -65,17 +49,6 @@ pub leaves_more : (row children : List (List ℕ)) (height : ℕ) (leaves : List
     → leaves ≡ leaves_below children (height - 1) → leaves ≡ leaves_below row height
 leaves_more row children height leaves some is are =
     are ∙ ap (map leaf_value) (ap (λ r. nodes_below r (height - 1)) is ∙ sym (below_more row height some))
-
-pub leaves_once : (row children : List (List ℕ)) (height : ℕ) (leaves : List ℕ) → height ≡ 1 → children ≡ children_of row
-    → leaves ≡ map leaf_value children → leaves ≡ leaves_below row height
-leaves_once row children height leaves one is are =
-    leaves_more row children height leaves (λ none. omega (arith, one, none)) is (leaves_none children (height - 1) leaves (omega (arith, one)) are)
-
-pub leaves_twice : (row children nodes : List (List ℕ)) (height : ℕ) (leaves : List ℕ) → height ≢ 0 → height ≢ 1 → children ≡ children_of row
-    → nodes ≡ children_of children → leaves ≡ leaves_below nodes (height - 2) → leaves ≡ leaves_below row height
-leaves_twice row children nodes height leaves some more is next are =
-    leaves_more row children height leaves some is
-    (leaves_more children nodes (height - 1) leaves (one_less height some more) next (are ∙ ap (leaves_below nodes) (fewer height)))
 
 pub leaves_two : (row first last : List (List ℕ)) (height : ℕ) (front back : List ℕ) → height ≢ 0 → first ++ last ≡ children_of row
     → front ≡ leaves_below first (height - 1) → back ≡ leaves_below last (height - 1) → front ++ back ≡ leaves_below row height
@@ -132,73 +105,53 @@ added_more row children height sums (first ∷ []) back after here none whole on
     (added_first row height first here back after is
     (subst (λ (nodes : List (List ℕ)). AreAdded nodes (height - 1) back after) same so_far) some)
 
--- one level alone
-pub added_once : (row children : List (List ℕ)) (height : ℕ) (sums front back : List LeftRight) (here none : LeftRight)
-    → sums ≡ front ++ back → length front ≡ 1 → here ≡ sums_with (get_or front 0 none) row → children ≡ children_of row → height ≡ 1
-    → AreAdded row height sums (set front 0 here ++ back)
-added_once row children height sums front back here none whole one is same last =
-    added_more row children height sums front back back here none whole one is same (λ none. omega (arith, last, none)) (record {
-      added = λ level below. absurd (omega (arith, below, last));
-      kept = λ level below. refl;
-    })
+-- ---- eight nodes
 
--- two levels, and what is added below them
-pub added_twice : (row children nodes : List (List ℕ)) (height : ℕ) (sums front back next rest after : List LeftRight) (here there none other : LeftRight)
-    → sums ≡ front ++ back → length front ≡ 1 → here ≡ sums_with (get_or front 0 none) row → children ≡ children_of row
-    → back ≡ next ++ rest → length next ≡ 1 → there ≡ sums_with (get_or next 0 other) children → nodes ≡ children_of children
-    → height ≢ 0 → height ≢ 1 → AreAdded nodes (height - 2) rest after → AreAdded row height sums (set front 0 here ++ (set next 0 there ++ after))
-added_twice row children nodes height sums front back next rest after here there none other whole one is same behind single at below some more so_far =
-    added_more row children height sums front back (set next 0 there ++ after) here none whole one is same some
-    (added_more children nodes (height - 1) back next rest after there other behind single at below (one_less height some more)
-    (subst (λ (n : ℕ). AreAdded nodes n rest after) (fewer height) so_far))
+-- a list of eight nodes
+pub eight_are : (nodes : List (List ℕ)) → length nodes ≡ 8
+    → nodes ≡ get_or nodes 0 [] ∷ get_or nodes 1 [] ∷ get_or nodes 2 [] ∷ get_or nodes 3 []
+    ∷ get_or nodes 4 [] ∷ get_or nodes 5 [] ∷ get_or nodes 6 [] ∷ get_or nodes 7 [] ∷ []
+eight_are [] eight = absurd (omega (arith, eight))
+eight_are (a ∷ []) eight = absurd (omega (arith, eight))
+eight_are (a ∷ b ∷ []) eight = absurd (omega (arith, eight))
+eight_are (a ∷ b ∷ c ∷ []) eight = absurd (omega (arith, eight))
+eight_are (a ∷ b ∷ c ∷ d ∷ []) eight = absurd (omega (arith, eight))
+eight_are (a ∷ b ∷ c ∷ d ∷ e ∷ []) eight = absurd (omega (arith, eight))
+eight_are (a ∷ b ∷ c ∷ d ∷ e ∷ f ∷ []) eight = absurd (omega (arith, eight))
+eight_are (a ∷ b ∷ c ∷ d ∷ e ∷ f ∷ g ∷ []) eight = absurd (omega (arith, eight))
+eight_are (a ∷ b ∷ c ∷ d ∷ e ∷ f ∷ g ∷ h ∷ []) eight = refl
+eight_are (a ∷ b ∷ c ∷ d ∷ e ∷ f ∷ g ∷ h ∷ i ∷ nodes) eight = absurd (omega (arith, eight))
 
--- ---- four nodes
-
--- a list of four nodes
-pub four_are : (nodes : List (List ℕ)) → length nodes ≡ 4
-    → nodes ≡ get_or nodes 0 [] ∷ get_or nodes 1 [] ∷ get_or nodes 2 [] ∷ get_or nodes 3 [] ∷ []
-four_are [] four = absurd (omega (arith, four))
-four_are (a ∷ []) four = absurd (omega (arith, four))
-four_are (a ∷ b ∷ []) four = absurd (omega (arith, four))
-four_are (a ∷ b ∷ c ∷ []) four = absurd (omega (arith, four))
-four_are (a ∷ b ∷ c ∷ d ∷ []) four = refl
-four_are (a ∷ b ∷ c ∷ d ∷ e ∷ nodes) four = absurd (omega (arith, four))
-
--- the children of four nodes, one by one
-pub four_children : (nodes : List (List ℕ)) (child : ℕ → Bool → List ℕ) → length nodes ≡ 4
-    → ((j : ℕ) (side : Bool) → j < 4 → child j side ≡ child_of side (get_or nodes j []))
-    → child 0 false ∷ child 0 true ∷ child 1 false ∷ child 1 true ∷ child 2 false ∷ child 2 true ∷ child 3 false ∷ child 3 true ∷ []
+-- the children of eight nodes, one by one
+pub eight_children : (nodes : List (List ℕ)) (child : ℕ → Bool → List ℕ) → length nodes ≡ 8
+    → ((j : ℕ) (side : Bool) → j < 8 → child j side ≡ child_of side (get_or nodes j []))
+    → child 0 false ∷ child 0 true ∷ child 1 false ∷ child 1 true ∷ child 2 false ∷ child 2 true ∷ child 3 false ∷ child 3 true
+    ∷ child 4 false ∷ child 4 true ∷ child 5 false ∷ child 5 true ∷ child 6 false ∷ child 6 true ∷ child 7 false ∷ child 7 true ∷ []
     ≡ children_of nodes
-four_children nodes child four each =
+eight_children nodes child eight each =
     (λ i. each 0 false (omega arith) i ∷ each 0 true (omega arith) i ∷ each 1 false (omega arith) i ∷ each 1 true (omega arith) i
-    ∷ each 2 false (omega arith) i ∷ each 2 true (omega arith) i ∷ each 3 false (omega arith) i ∷ each 3 true (omega arith) i ∷ [])
-    ∙ ap children_of (sym (four_are nodes four))
+    ∷ each 2 false (omega arith) i ∷ each 2 true (omega arith) i ∷ each 3 false (omega arith) i ∷ each 3 true (omega arith) i
+    ∷ each 4 false (omega arith) i ∷ each 4 true (omega arith) i ∷ each 5 false (omega arith) i ∷ each 5 true (omega arith) i
+    ∷ each 6 false (omega arith) i ∷ each 6 true (omega arith) i ∷ each 7 false (omega arith) i ∷ each 7 true (omega arith) i ∷ [])
+    ∙ ap children_of (sym (eight_are nodes eight))
 
 -- sums with one more on each side
 abbrev pub with_pair : LeftRight → List ℕ → List ℕ → LeftRight
 with_pair sums left right = record { left = xor_bytes sums.left left; right = xor_bytes sums.right right }
 
--- the sums with the children of four nodes, added one after the other
-four_added : (nodes children : List (List ℕ)) (sums : LeftRight) → length nodes ≡ 4 → children ≡ children_of nodes
-    → with_pair (with_pair (with_pair (with_pair sums (get_or children 0 []) (get_or children 1 [])) (get_or children 2 []) (get_or children 3 []))
-    (get_or children 4 []) (get_or children 5 [])) (get_or children 6 []) (get_or children 7 [])
-    ≡ sums_with sums nodes
-four_added nodes children sums four are =
-    ap added (are ∙ ap children_of (four_are nodes four)) ∙ ap (sums_with sums) (sym (four_are nodes four))
+-- with the first four pairs of a list, added one after the other
+abbrev pub with_four : LeftRight → List (List ℕ) → LeftRight
+with_four sums list =
+    with_pair (with_pair (with_pair (with_pair sums (get_or list 0 []) (get_or list 1 [])) (get_or list 2 []) (get_or list 3 []))
+    (get_or list 4 []) (get_or list 5 [])) (get_or list 6 []) (get_or list 7 [])
+
+-- the sums with the children of eight nodes, which are two rows of eight, added one after the other
+pub rows_added : (nodes first last : List (List ℕ)) (sums : LeftRight) → length nodes ≡ 8 → length first ≡ 8 → first ++ last ≡ children_of nodes
+    → with_four (with_four sums first) last ≡ sums_with sums nodes
+rows_added nodes first last sums eight row are =
+    ap (λ list. with_four (with_four sums list) last) (eight_are first row)
+    ∙ ap added (sym (ap (λ list. list ++ last) (eight_are first row)) ∙ are ∙ ap children_of (eight_are nodes eight))
+    ∙ ap (sums_with sums) (sym (eight_are nodes eight))
   where
     added : List (List ℕ) → LeftRight
-    added list =
-        with_pair (with_pair (with_pair (with_pair sums (get_or list 0 []) (get_or list 1 [])) (get_or list 2 []) (get_or list 3 []))
-        (get_or list 4 []) (get_or list 5 [])) (get_or list 6 []) (get_or list 7 [])
-
--- the same, of two rows of four children
-pub rows_added : (nodes first last : List (List ℕ)) (sums : LeftRight) → length nodes ≡ 4 → length first ≡ 4 → first ++ last ≡ children_of nodes
-    → with_pair (with_pair (with_pair (with_pair sums (get_or first 0 []) (get_or first 1 [])) (get_or first 2 []) (get_or first 3 []))
-    (get_or last 0 []) (get_or last 1 [])) (get_or last 2 []) (get_or last 3 [])
-    ≡ sums_with sums nodes
-rows_added nodes [] last sums four row are = absurd (omega (arith, row))
-rows_added nodes (a ∷ []) last sums four row are = absurd (omega (arith, row))
-rows_added nodes (a ∷ b ∷ []) last sums four row are = absurd (omega (arith, row))
-rows_added nodes (a ∷ b ∷ c ∷ []) last sums four row are = absurd (omega (arith, row))
-rows_added nodes (a ∷ b ∷ c ∷ d ∷ []) last sums four row are = four_added nodes (a ∷ b ∷ c ∷ d ∷ last) sums four are
-rows_added nodes (a ∷ b ∷ c ∷ d ∷ e ∷ first) last sums four row are = absurd (omega (arith, row))
+    added list = with_four (with_four sums list) (drop 8 list)

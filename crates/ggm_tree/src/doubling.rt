@@ -1,10 +1,10 @@
 // Nodes into their children. Nothing else in the crate hashes.
-ghost use Rattle.std.specs.Prelude.{◌≡◌, ◌+◌, ◌<◌, true, false, take, drop};
+ghost use Rattle.std.specs.Prelude.{◌≡◌, ◌+◌, ◌++◌, ◌<◌, true, false, take, drop};
 ghost use Rattle.zk_model.specs.Tree.{child_of};
 ghost use Rattle.ggm_tree.specs.Rows.{children_of};
 
 use crate::steps::Steps;
-use sha_lanes::digest_four;
+use sha_lanes::digest_eight;
 use sha2::{Digest, Sha256};
 use std::marker::Brand;
 use std::sync::ledger::{Blank, Ledger};
@@ -40,18 +40,33 @@ fn children_from<L: Ledger>(node: &[u8; 16], blank: Blank) -> ([u8; 16], [u8; 16
     double(node, &mut steps)
 }
 
-/// The children of four nodes, in order. They are hashed at once, and count as four steps.
-pub fn double_four<L: Ledger>(nodes: &[[u8; 16]; 4], steps: &mut Steps<L>) -> [[u8; 16]; 8]
-    ensures children { result ≡ children_of nodes.now }
-    ensures steps { steps.new ≡ steps.old + 4 }
+/// The children of eight nodes, in order: those of the first four, and those of the last four. The nodes are hashed at once, and
+/// count as eight steps.
+pub fn double_eight<L: Ledger>(
+    nodes: &[[u8; 16]; 8],
+    steps: &mut Steps<L>,
+) -> ([[u8; 16]; 8], [[u8; 16]; 8])
+    ensures children { result.0 ++ result.1 ≡ children_of nodes.now }
+    ensures steps { steps.new ≡ steps.old + 8 }
 {
-    steps.count(4);
-    let digests = digest_four(nodes);
-    let (first, second) = halves(&digests[0]);
-    let (third, fourth) = halves(&digests[1]);
-    let (fifth, sixth) = halves(&digests[2]);
-    let (seventh, last) = halves(&digests[3]);
-    [first, second, third, fourth, fifth, sixth, seventh, last]
+    steps.count(8);
+    let digests = digest_eight(nodes);
+    let (left_0, right_0) = halves(&digests[0]);
+    let (left_1, right_1) = halves(&digests[1]);
+    let (left_2, right_2) = halves(&digests[2]);
+    let (left_3, right_3) = halves(&digests[3]);
+    let (left_4, right_4) = halves(&digests[4]);
+    let (left_5, right_5) = halves(&digests[5]);
+    let (left_6, right_6) = halves(&digests[6]);
+    let (left_7, right_7) = halves(&digests[7]);
+    (
+        [
+            left_0, right_0, left_1, right_1, left_2, right_2, left_3, right_3,
+        ],
+        [
+            left_4, right_4, left_5, right_5, left_6, right_6, left_7, right_7,
+        ],
+    )
 }
 
 /// The halves of a digest.

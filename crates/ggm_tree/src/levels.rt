@@ -3,7 +3,7 @@ ghost use Rattle.std.specs.Prelude.{◌≡◌, ℕ, ◌+◌, List, ◌++◌, [],
 ghost use Rattle.zk_model.specs.Bytes.{xor_bytes};
 ghost use Rattle.ggm_tree.specs.Rows.{children_of, sums_with};
 
-use crate::doubling::{double, double_four};
+use crate::doubling::double;
 use crate::nodes::add;
 use crate::steps::Steps;
 use std::sync::ledger::Ledger;
@@ -50,28 +50,32 @@ pub(crate) fn below_two<L: Ledger>(
     [first[0], first[1], last[0], last[1]]
 }
 
-/// The children of four nodes, in order: those of the first two, and those of the last two. They are in no sum yet.
+/// The children of four nodes, in order.
 pub(crate) fn below_four<L: Ledger>(
     nodes: &[[u8; 16]; 4],
+    sums: &mut BlockPair,
     steps: &mut Steps<L>,
-) -> ([[u8; 16]; 4], [[u8; 16]; 4])
-    ensures children { result.0 ++ result.1 ≡ children_of nodes.now }
+) -> [[u8; 16]; 8]
+    ensures children { result ≡ children_of nodes.now }
+    ensures sums { sums.new ≡ sums_with sums.old nodes.now }
     ensures steps { steps.new ≡ steps.old + 4 }
 {
-    let [first, second, third, fourth, fifth, sixth, seventh, last] = double_four(nodes, steps);
-    (
-        [first, second, third, fourth],
-        [fifth, sixth, seventh, last],
-    )
+    let [first, second, third, fourth] = below_two(&[nodes[0], nodes[1]], sums, steps);
+    let [fifth, sixth, seventh, last] = below_two(&[nodes[2], nodes[3]], sums, steps);
+    [first, second, third, fourth, fifth, sixth, seventh, last]
 }
 
-/// Adds the children of four nodes to the sums of their level.
-pub(crate) fn add_four(sums: &mut BlockPair, first: &[[u8; 16]; 4], last: &[[u8; 16]; 4])
-    ensures { (nodes : List (List ℕ)) → length nodes ≡ 4 → first.now ++ last.now ≡ children_of nodes
+/// Adds the children of eight nodes to the sums of their level.
+pub(crate) fn add_eight(sums: &mut BlockPair, first: &[[u8; 16]; 8], last: &[[u8; 16]; 8])
+    ensures { (nodes : List (List ℕ)) → length nodes ≡ 8 → first.now ++ last.now ≡ children_of nodes
         → sums.new ≡ sums_with sums.old nodes }
 {
     add_children(sums, &first[0], &first[1]);
     add_children(sums, &first[2], &first[3]);
+    add_children(sums, &first[4], &first[5]);
+    add_children(sums, &first[6], &first[7]);
     add_children(sums, &last[0], &last[1]);
     add_children(sums, &last[2], &last[3]);
+    add_children(sums, &last[4], &last[5]);
+    add_children(sums, &last[6], &last[7]);
 }

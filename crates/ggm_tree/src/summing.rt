@@ -5,7 +5,8 @@ ghost use Rattle.zk_model.specs.Field.{prime};
 ghost use Rattle.zk_model.specs.Tree.{leaf_value};
 ghost use Rattle.ggm_tree.specs.Rows.{leaves_below, AreAdded};
 
-use crate::levels::{add_four, below_four, below_one, below_two};
+use crate::doubling::double_eight;
+use crate::levels::{add_eight, below_four, below_one, below_two};
 use crate::nodes::leaf_value;
 use crate::steps::Steps;
 use mersenne_field::Fe;
@@ -26,20 +27,36 @@ pub(crate) fn sum_one<L: Ledger>(
     ensures steps { steps.new + 1 ≡ steps.old + 2 ^ height }
 {
     if height == 0 {
-        return sum_of(&[*node]);
-    }
-    let (here, below) = sums.split_at_mut(1);
-    let children = below_one(node, &mut here[0], steps);
-    if height == 1 {
-        sum_of(&children)
+        sum_of(&[*node])
     } else {
-        let (next, rest) = below.split_at_mut(1);
-        let nodes = below_two(&children, &mut next[0], steps);
-        sum_four(&nodes, height - 2, rest, steps)
+        let (here, below) = sums.split_at_mut(1);
+        let children = below_one(node, &mut here[0], steps);
+        sum_two(&children, height - 1, below, steps)
     }
 }
 
-/// The sum of the leaves below four nodes: those below the children of the first two and those of the last two.
+/// The sum of the leaves below two nodes.
+fn sum_two<L: Ledger>(
+    nodes: &[[u8; 16]; 2],
+    height: u32,
+    sums: &mut [BlockPair],
+    steps: &mut Steps<L>,
+) -> Fe
+    requires levels { height ≤ length sums.old }
+    ensures leaves { result ≡ sum (leaves_below nodes.now height) % prime }
+    ensures sums { AreAdded nodes.now height sums.old sums.new }
+    ensures steps { steps.new + 2 ≡ steps.old + 2 * 2 ^ height }
+{
+    if height == 0 {
+        sum_of(nodes)
+    } else {
+        let (here, below) = sums.split_at_mut(1);
+        let children = below_two(nodes, &mut here[0], steps);
+        sum_four(&children, height - 1, below, steps)
+    }
+}
+
+/// The sum of the leaves below four nodes.
 fn sum_four<L: Ledger>(
     nodes: &[[u8; 16]; 4],
     height: u32,
@@ -55,10 +72,31 @@ fn sum_four<L: Ledger>(
         sum_of(nodes)
     } else {
         let (here, below) = sums.split_at_mut(1);
-        let (first, last) = below_four(nodes, steps);
-        let front = sum_four(&first, height - 1, below, steps);
-        let back = sum_four(&last, height - 1, below, steps);
-        add_four(&mut here[0], &first, &last);
+        let children = below_four(nodes, &mut here[0], steps);
+        sum_eight(&children, height - 1, below, steps)
+    }
+}
+
+/// The sum of the leaves below eight nodes: those below the children of the first four and those of the last four.
+fn sum_eight<L: Ledger>(
+    nodes: &[[u8; 16]; 8],
+    height: u32,
+    sums: &mut [BlockPair],
+    steps: &mut Steps<L>,
+) -> Fe
+    requires levels { height ≤ length sums.old }
+    ensures leaves { result ≡ sum (leaves_below nodes.now height) % prime }
+    ensures sums { AreAdded nodes.now height sums.old sums.new }
+    ensures steps { steps.new + 8 ≡ steps.old + 8 * 2 ^ height }
+{
+    if height == 0 {
+        sum_of(nodes)
+    } else {
+        let (here, below) = sums.split_at_mut(1);
+        let (first, last) = double_eight(nodes, steps);
+        let front = sum_eight(&first, height - 1, below, steps);
+        let back = sum_eight(&last, height - 1, below, steps);
+        add_eight(&mut here[0], &first, &last);
         front + back
     }
 }

@@ -1,9 +1,10 @@
-// The leaves below some nodes of a level, written in order, and the sums of the levels on the way. A tree is walked in
-// depth, by two nodes side by side from one, and by four from two on, whose children are hashed at once.
+// The leaves below some nodes of a level, written in order, and the sums of the levels on the way. From one node come two,
+// four and eight; from there a tree is walked in depth, by eight nodes side by side, whose children are hashed at once.
 ghost use Rattle.std.specs.Prelude.{◌≡◌, ◌+◌, ◌*◌, ◌^◌, ◌<◌, ◌≤◌, [], ◌∷◌, length};
 ghost use Rattle.ggm_tree.specs.Rows.{leaves_below, AreAdded};
 
-use crate::levels::{add_four, below_four, below_one, below_two};
+use crate::doubling::double_eight;
+use crate::levels::{add_eight, below_four, below_one, below_two};
 use crate::nodes::put_leaves;
 use crate::steps::Steps;
 use mersenne_field::Fe;
@@ -27,20 +28,37 @@ pub(crate) fn write_one<L: Ledger>(
 {
     if height == 0 {
         put_leaves(&[*node], leaves);
-        return;
-    }
-    let (here, below) = sums.split_at_mut(1);
-    let children = below_one(node, &mut here[0], steps);
-    if height == 1 {
-        put_leaves(&children, leaves);
     } else {
-        let (next, rest) = below.split_at_mut(1);
-        let nodes = below_two(&children, &mut next[0], steps);
-        write_four(&nodes, height - 2, rest, leaves, steps);
+        let (here, below) = sums.split_at_mut(1);
+        let children = below_one(node, &mut here[0], steps);
+        write_two(&children, height - 1, below, leaves, steps);
     }
 }
 
-/// Writes the leaves below four nodes: those below the children of the first two, then those of the last two.
+/// Writes the leaves below two nodes.
+fn write_two<L: Ledger>(
+    nodes: &[[u8; 16]; 2],
+    height: u32,
+    sums: &mut [BlockPair],
+    leaves: &mut [Fe],
+    steps: &mut Steps<L>,
+)
+    requires levels { height ≤ length sums.old }
+    requires places { length leaves.old ≡ 2 * 2 ^ height }
+    ensures leaves { leaves.new ≡ leaves_below nodes.now height }
+    ensures sums { AreAdded nodes.now height sums.old sums.new }
+    ensures steps { steps.new + 2 ≡ steps.old + 2 * 2 ^ height }
+{
+    if height == 0 {
+        put_leaves(nodes, leaves);
+    } else {
+        let (here, below) = sums.split_at_mut(1);
+        let children = below_two(nodes, &mut here[0], steps);
+        write_four(&children, height - 1, below, leaves, steps);
+    }
+}
+
+/// Writes the leaves below four nodes.
 fn write_four<L: Ledger>(
     nodes: &[[u8; 16]; 4],
     height: u32,
@@ -58,12 +76,35 @@ fn write_four<L: Ledger>(
         put_leaves(nodes, leaves);
     } else {
         let (here, below) = sums.split_at_mut(1);
-        let (first, last) = below_four(nodes, steps);
+        let children = below_four(nodes, &mut here[0], steps);
+        write_eight(&children, height - 1, below, leaves, steps);
+    }
+}
+
+/// Writes the leaves below eight nodes: those below the children of the first four, then those of the last four.
+fn write_eight<L: Ledger>(
+    nodes: &[[u8; 16]; 8],
+    height: u32,
+    sums: &mut [BlockPair],
+    leaves: &mut [Fe],
+    steps: &mut Steps<L>,
+)
+    requires levels { height ≤ length sums.old }
+    requires places { length leaves.old ≡ 8 * 2 ^ height }
+    ensures leaves { leaves.new ≡ leaves_below nodes.now height }
+    ensures sums { AreAdded nodes.now height sums.old sums.new }
+    ensures steps { steps.new + 8 ≡ steps.old + 8 * 2 ^ height }
+{
+    if height == 0 {
+        put_leaves(nodes, leaves);
+    } else {
+        let (here, below) = sums.split_at_mut(1);
+        let (first, last) = double_eight(nodes, steps);
         let half = leaves.len() / 2;
         let (front, back) = leaves.split_at_mut(half);
-        write_four(&first, height - 1, below, front, steps);
-        write_four(&last, height - 1, below, back, steps);
-        add_four(&mut here[0], &first, &last);
+        write_eight(&first, height - 1, below, front, steps);
+        write_eight(&last, height - 1, below, back, steps);
+        add_eight(&mut here[0], &first, &last);
     }
 }
 

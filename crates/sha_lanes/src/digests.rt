@@ -4,11 +4,11 @@ ghost use Rattle.sha2.specs.Sha256.{digest_bytes, sha256};
 ghost use Rattle.sha_lanes.specs.Lanes.{lane};
 
 use crate::rounds::hash_values;
-use std::simd::u32x4;
+use std::simd::u32x8;
 
-/// The digests of four messages of 16 bytes under SHA-256 (FIPS 180-4, 6.2), in order.
-pub fn digest_four(messages: &[[u8; 16]; 4]) -> [[u8; 32]; 4]
-    ensures { (j : ℕ) → j < 4 → slice_index_or result j [] ≡ sha256 (slice_index_or messages.now j []) }
+/// The digests of eight messages of 16 bytes under SHA-256 (FIPS 180-4, 6.2), in order.
+pub fn digest_eight(messages: &[[u8; 16]; 8]) -> [[u8; 32]; 8]
+    ensures { (j : ℕ) → j < 8 → slice_index_or result j [] ≡ sha256 (slice_index_or messages.now j []) }
 {
     let hashes = hash_values(messages);
     [
@@ -16,13 +16,17 @@ pub fn digest_four(messages: &[[u8; 16]; 4]) -> [[u8; 32]; 4]
         digest(hash_value(&hashes, 1)),
         digest(hash_value(&hashes, 2)),
         digest(hash_value(&hashes, 3)),
+        digest(hash_value(&hashes, 4)),
+        digest(hash_value(&hashes, 5)),
+        digest(hash_value(&hashes, 6)),
+        digest(hash_value(&hashes, 7)),
     ]
 }
 
 /// The hash value in lane j.
 #[inline(always)]
-fn hash_value(hashes: &[u32x4; 8], j: usize) -> [u32; 8]
-    requires { j < 4 }
+fn hash_value(hashes: &[u32x8; 8], j: usize) -> [u32; 8]
+    requires { j < 8 }
     ensures { result ≡ lane j hashes.now }
 {
     [
