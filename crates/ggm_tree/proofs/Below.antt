@@ -1,6 +1,8 @@
 -- The nodes below a row.
-use Rattle.std.proofs.Common.{◌≡◌, ◌≢◌, ℕ, zero, suc, ◌-◌, ◌*◌, ◌^◌, ◌<◌, ◌≤◌, Bool, true, false, List, [], ◌∷◌, ◌++◌, map, length, drop, get_or, set, fold, refl, sym, ◌∙◌, ap, subst, arith, pow-suc}
-use Rattle.std.proofs.lemmas.List.{map-append}
+use Rattle.std.proofs.Common.{◌≡◌, ◌≢◌, ℕ, zero, suc, ◌-◌, ◌*◌, ◌^◌, ◌<◌, ◌≤◌, Bool, true, false, List, [], ◌∷◌, ◌++◌, map, length, drop, get_or, set, fold, refl, sym, ◌∙◌, ap, subst, arith, pow-suc, ◌+◌, inl, inr, zero-add}
+use Rattle.std.proofs.lemmas.Bool.{cases_lt}
+use Rattle.std.proofs.lemmas.List.{get_or_append_left, get_or-append_right, map-append}
+use Rattle.std.proofs.lemmas.Nat.{pow-add}
 use Rattle.zk_model.specs.Bytes.{LeftRight, xor_bytes}
 use Rattle.zk_model.specs.Tree.{child_of, leaf_value}
 use Rattle.ggm_tree.specs.Rows.{children_of, nodes_below, leaves_below, sums_with, level_in, AreAdded}
@@ -105,6 +107,97 @@ added_more row children height sums (first ∷ []) back after here none whole on
     (added_first row height first here back after is
     (subst (λ (nodes : List (List ℕ)). AreAdded nodes (height - 1) back after) same so_far) some)
 
+-- sums with one more on each side
+abbrev pub with_pair : LeftRight → List ℕ → List ℕ → LeftRight
+with_pair sums left right = record { left = xor_bytes sums.left left; right = xor_bytes sums.right right }
+
+-- the sums with the children of one node
+pub pair_added : (node left right : List ℕ) (sums here : LeftRight) → left ≡ child_of false node → right ≡ child_of true node
+    → here ≡ with_pair sums left right → here ≡ sums_with sums (node ∷ [])
+pair_added node left right sums here one other is = is ∙ (λ i. with_pair sums (one i) (other i))
+
+-- ---- several levels at once
+
+-- what is below nodes that are so far below a row
+pub below_further : (row : List (List ℕ)) (k height : ℕ) → nodes_below (nodes_below row k) height ≡ nodes_below row (k + height)
+unfolding nodes_below
+below_further row zero height = ap (nodes_below row) (sym (zero-add height))
+below_further row (suc k) height =
+    below_further (children_of row) k height ∙ let same : suc (k + height) ≡ suc k + height = omega arith in ap (nodes_below row) same
+
+pub leaves_further : (row nodes : List (List ℕ)) (k height : ℕ) (leaves : List ℕ) → k ≤ height → nodes ≡ nodes_below row k
+    → leaves ≡ leaves_below nodes (height - k) → leaves ≡ leaves_below row height
+leaves_further row nodes k height leaves few is are =
+    let same : k + (height - k) ≡ height = omega arith in
+    are ∙ ap (λ r. leaves_below r (height - k)) is ∙ ap (map leaf_value) (below_further row k (height - k) ∙ ap (nodes_below row) same)
+
+-- what is added to the first levels, and to those below them
+pub added_further : (row nodes : List (List ℕ)) (k height : ℕ) (sums front back top under : List LeftRight) → k ≤ height
+    → sums ≡ front ++ back → length front ≡ k → length top ≡ k → nodes ≡ nodes_below row k
+    → AreAdded row k front top → AreAdded nodes (height - k) back under → AreAdded row height sums (top ++ under)
+added_further row nodes k height sums front back top under few whole long same is first later = record { added = at; kept = past }
+  where
+    none : LeftRight
+    none = record { left = []; right = [] }
+
+    early : (level : ℕ) → level < k → (level_in sums level ≡ level_in front level) × (level_in (top ++ under) level ≡ level_in top level)
+    early level less = (
+      ap (λ l. level_in l level) whole ∙ get_or_append_left front back none level (omega (arith, less)),
+      get_or_append_left top under none level (omega (arith, less)),
+    )
+
+    late : (level : ℕ) → k ≤ level → (level_in sums level ≡ level_in back (level - k)) × (level_in (top ++ under) level ≡ level_in under (level - k))
+    late level more = (
+      ap (λ l. level_in l level) whole ∙ get_or-append_right front back k level none long more,
+      get_or-append_right top under k level none same more,
+    )
+
+    at : (level : ℕ) → level < height → level_in (top ++ under) level ≡ sums_with (level_in sums level) (nodes_below row level)
+    at level below = elim (cases_lt level k) [
+      | inl less ↦ (early level less).1 ∙ first.added level less ∙ ap (λ b. sums_with b (nodes_below row level)) (sym (early level less).0)
+      | inr more ↦
+          let again : k + (level - k) ≡ level = omega (arith, more) in
+          (late level more).1 ∙ later.added (level - k) (omega (arith, below, more))
+          ∙ (λ i. sums_with (sym (late level more).0 i)
+          ((ap (λ r. nodes_below r (level - k)) is ∙ below_further row k (level - k) ∙ ap (nodes_below row) again) i))
+    ]
+
+    past : (level : ℕ) → height ≤ level → level_in (top ++ under) level ≡ level_in sums level
+    past level above =
+        let more : k ≤ level = omega (arith, above, few) in
+        (late level more).1 ∙ later.kept (level - k) (omega (arith, above)) ∙ sym (late level more).0
+
+-- three levels, one after another
+pub added_three : (row two four : List (List ℕ)) (sums : List LeftRight) (first second third none other last : LeftRight) → length sums ≡ 3
+    → two ≡ children_of row → four ≡ children_of two → first ≡ sums_with (get_or sums 0 none) row
+    → second ≡ sums_with (get_or (set sums 0 first) 1 other) two
+    → third ≡ sums_with (get_or (set (set sums 0 first) 1 second) 2 last) four
+    → AreAdded row 3 sums (set (set (set sums 0 first) 1 second) 2 third)
+unfolding nodes_below
+added_three row two four (a ∷ b ∷ c ∷ []) first second third none other last long is next one then_one at_last = record { added = at; kept = past }
+  where
+    at : (level : ℕ) → level < 3 → level_in (first ∷ second ∷ third ∷ []) level ≡ sums_with (level_in (a ∷ b ∷ c ∷ []) level) (nodes_below row level)
+    at zero below = one
+    at (suc zero) below = then_one ∙ ap (sums_with b) is
+    at (suc (suc zero)) below = at_last ∙ ap (sums_with c) (next ∙ ap children_of is)
+    at (suc (suc (suc level))) below = absurd (omega (arith, below))
+
+    past : (level : ℕ) → 3 ≤ level → level_in (first ∷ second ∷ third ∷ []) level ≡ level_in (a ∷ b ∷ c ∷ []) level
+    past (suc (suc (suc level))) above = refl
+    past zero above = absurd (omega (arith, above))
+    past (suc zero) above = absurd (omega (arith, above))
+    past (suc (suc zero)) above = absurd (omega (arith, above))
+added_three row two four [] first second third none other last long is next one then_one at_last = absurd (omega (arith, long))
+added_three row two four (a ∷ []) first second third none other last long is next one then_one at_last = absurd (omega (arith, long))
+added_three row two four (a ∷ b ∷ []) first second third none other last long is next one then_one at_last = absurd (omega (arith, long))
+added_three row two four (a ∷ b ∷ c ∷ d ∷ sums) first second third none other last long is next one then_one at_last = absurd (omega (arith, long))
+
+-- eight times as wide
+pub pow_eight : (height : ℕ) → 3 ≤ height → 2 ^ height ≡ 8 * 2 ^ (height - 3)
+pow_eight height more =
+    let split : height ≡ 3 + (height - 3) = omega (arith, more) in
+    ap (λ n. 2 ^ n) split ∙ pow-add 2 3 (height - 3)
+
 -- ---- eight nodes
 
 -- a list of eight nodes
@@ -134,10 +227,6 @@ eight_children nodes child eight each =
     ∷ each 4 false (omega arith) i ∷ each 4 true (omega arith) i ∷ each 5 false (omega arith) i ∷ each 5 true (omega arith) i
     ∷ each 6 false (omega arith) i ∷ each 6 true (omega arith) i ∷ each 7 false (omega arith) i ∷ each 7 true (omega arith) i ∷ [])
     ∙ ap children_of (sym (eight_are nodes eight))
-
--- sums with one more on each side
-abbrev pub with_pair : LeftRight → List ℕ → List ℕ → LeftRight
-with_pair sums left right = record { left = xor_bytes sums.left left; right = xor_bytes sums.right right }
 
 -- with the first four pairs of a list, added one after the other
 abbrev pub with_four : LeftRight → List (List ℕ) → LeftRight

@@ -1,7 +1,7 @@
 // From one level to the next, with the sums of both sides.
 ghost use Rattle.std.specs.Prelude.{◌≡◌, ℕ, ◌+◌, List, ◌++◌, [], ◌∷◌, length};
 ghost use Rattle.zk_model.specs.Bytes.{xor_bytes};
-ghost use Rattle.ggm_tree.specs.Rows.{children_of, sums_with};
+ghost use Rattle.ggm_tree.specs.Rows.{AreAdded, children_of, nodes_below, sums_with};
 
 use crate::doubling::double;
 use crate::nodes::add;
@@ -10,7 +10,7 @@ use std::sync::ledger::Ledger;
 use zk_model::BlockPair;
 
 /// Adds both children of a node to the sums of their level.
-fn add_children(sums: &mut BlockPair, left: &[u8; 16], right: &[u8; 16])
+pub(crate) fn add_children(sums: &mut BlockPair, left: &[u8; 16], right: &[u8; 16])
     ensures { sums.new ≡ record {
       left = xor_bytes sums.old.left left.now;
       right = xor_bytes sums.old.right right.now;
@@ -21,7 +21,7 @@ fn add_children(sums: &mut BlockPair, left: &[u8; 16], right: &[u8; 16])
 }
 
 /// The children of a node.
-pub(crate) fn below_one<L: Ledger>(
+fn below_one<L: Ledger>(
     node: &[u8; 16],
     sums: &mut BlockPair,
     steps: &mut Steps<L>,
@@ -36,7 +36,7 @@ pub(crate) fn below_one<L: Ledger>(
 }
 
 /// The children of two nodes, in order.
-pub(crate) fn below_two<L: Ledger>(
+fn below_two<L: Ledger>(
     nodes: &[[u8; 16]; 2],
     sums: &mut BlockPair,
     steps: &mut Steps<L>,
@@ -51,7 +51,7 @@ pub(crate) fn below_two<L: Ledger>(
 }
 
 /// The children of four nodes, in order.
-pub(crate) fn below_four<L: Ledger>(
+fn below_four<L: Ledger>(
     nodes: &[[u8; 16]; 4],
     sums: &mut BlockPair,
     steps: &mut Steps<L>,
@@ -63,6 +63,22 @@ pub(crate) fn below_four<L: Ledger>(
     let [first, second, third, fourth] = below_two(&[nodes[0], nodes[1]], sums, steps);
     let [fifth, sixth, seventh, last] = below_two(&[nodes[2], nodes[3]], sums, steps);
     [first, second, third, fourth, fifth, sixth, seventh, last]
+}
+
+/// The eight nodes three levels below a node, in order, once those of each level are added to its sums.
+pub(crate) fn eight_below<L: Ledger>(
+    node: &[u8; 16],
+    sums: &mut [BlockPair],
+    steps: &mut Steps<L>,
+) -> [[u8; 16]; 8]
+    requires { length sums.old ≡ 3 }
+    ensures nodes { result ≡ nodes_below (node.now ∷ []) 3 }
+    ensures sums { AreAdded (node.now ∷ []) 3 sums.old sums.new }
+    ensures steps { steps.new ≡ steps.old + 7 }
+{
+    let two = below_one(node, &mut sums[0], steps);
+    let four = below_two(&two, &mut sums[1], steps);
+    below_four(&four, &mut sums[2], steps)
 }
 
 /// Adds the children of eight nodes to the sums of their level.

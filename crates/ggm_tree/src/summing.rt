@@ -5,8 +5,8 @@ ghost use Rattle.zk_model.specs.Field.{prime};
 ghost use Rattle.zk_model.specs.Tree.{leaf_value};
 ghost use Rattle.ggm_tree.specs.Rows.{leaves_below, AreAdded};
 
-use crate::doubling::double_eight;
-use crate::levels::{add_eight, below_four, below_one, below_two};
+use crate::doubling::{double, double_eight};
+use crate::levels::{add_children, add_eight, eight_below};
 use crate::nodes::leaf_value;
 use crate::steps::Steps;
 use mersenne_field::Fe;
@@ -26,54 +26,36 @@ pub(crate) fn sum_one<L: Ledger>(
     ensures sums { AreAdded (node.now ∷ []) height sums.old sums.new }
     ensures steps { steps.new + 1 ≡ steps.old + 2 ^ height }
 {
+    if height < 3 {
+        sum_low(node, height, sums, steps)
+    } else {
+        let (top, below) = sums.split_at_mut(3);
+        let nodes = eight_below(node, top, steps);
+        sum_eight(&nodes, height - 3, below, steps)
+    }
+}
+
+/// The same, node by node: of those below its left child and those below its right one.
+fn sum_low<L: Ledger>(
+    node: &[u8; 16],
+    height: u32,
+    sums: &mut [BlockPair],
+    steps: &mut Steps<L>,
+) -> Fe
+    requires levels { height ≤ length sums.old }
+    ensures leaves { result ≡ sum (leaves_below (node.now ∷ []) height) % prime }
+    ensures sums { AreAdded (node.now ∷ []) height sums.old sums.new }
+    ensures steps { steps.new + 1 ≡ steps.old + 2 ^ height }
+{
     if height == 0 {
         sum_of(&[*node])
     } else {
         let (here, below) = sums.split_at_mut(1);
-        let children = below_one(node, &mut here[0], steps);
-        sum_two(&children, height - 1, below, steps)
-    }
-}
-
-/// The sum of the leaves below two nodes.
-fn sum_two<L: Ledger>(
-    nodes: &[[u8; 16]; 2],
-    height: u32,
-    sums: &mut [BlockPair],
-    steps: &mut Steps<L>,
-) -> Fe
-    requires levels { height ≤ length sums.old }
-    ensures leaves { result ≡ sum (leaves_below nodes.now height) % prime }
-    ensures sums { AreAdded nodes.now height sums.old sums.new }
-    ensures steps { steps.new + 2 ≡ steps.old + 2 * 2 ^ height }
-{
-    if height == 0 {
-        sum_of(nodes)
-    } else {
-        let (here, below) = sums.split_at_mut(1);
-        let children = below_two(nodes, &mut here[0], steps);
-        sum_four(&children, height - 1, below, steps)
-    }
-}
-
-/// The sum of the leaves below four nodes.
-fn sum_four<L: Ledger>(
-    nodes: &[[u8; 16]; 4],
-    height: u32,
-    sums: &mut [BlockPair],
-    steps: &mut Steps<L>,
-) -> Fe
-    requires levels { height ≤ length sums.old }
-    ensures leaves { result ≡ sum (leaves_below nodes.now height) % prime }
-    ensures sums { AreAdded nodes.now height sums.old sums.new }
-    ensures steps { steps.new + 4 ≡ steps.old + 4 * 2 ^ height }
-{
-    if height == 0 {
-        sum_of(nodes)
-    } else {
-        let (here, below) = sums.split_at_mut(1);
-        let children = below_four(nodes, &mut here[0], steps);
-        sum_eight(&children, height - 1, below, steps)
+        let (left, right) = double(node, steps);
+        let front = sum_low(&left, height - 1, below, steps);
+        let back = sum_low(&right, height - 1, below, steps);
+        add_children(&mut here[0], &left, &right);
+        front + back
     }
 }
 

@@ -1,10 +1,10 @@
-// The leaves below some nodes of a level, written in order, and the sums of the levels on the way. From one node come two,
-// four and eight; from there a tree is walked in depth, by eight nodes side by side, whose children are hashed at once.
+// The leaves below some nodes of a level, written in order, and the sums of the levels on the way. From the third level
+// below one node on a tree is walked in depth by eight nodes side by side, whose children are hashed at once.
 ghost use Rattle.std.specs.Prelude.{◌≡◌, ◌+◌, ◌*◌, ◌^◌, ◌<◌, ◌≤◌, [], ◌∷◌, length};
 ghost use Rattle.ggm_tree.specs.Rows.{leaves_below, AreAdded};
 
-use crate::doubling::double_eight;
-use crate::levels::{add_eight, below_four, below_one, below_two};
+use crate::doubling::{double, double_eight};
+use crate::levels::{add_children, add_eight, eight_below};
 use crate::nodes::put_leaves;
 use crate::steps::Steps;
 use mersenne_field::Fe;
@@ -26,58 +26,39 @@ pub(crate) fn write_one<L: Ledger>(
     ensures sums { AreAdded (node.now ∷ []) height sums.old sums.new }
     ensures steps { steps.new + 1 ≡ steps.old + 2 ^ height }
 {
+    if height < 3 {
+        write_low(node, height, sums, leaves, steps);
+    } else {
+        let (top, below) = sums.split_at_mut(3);
+        let nodes = eight_below(node, top, steps);
+        write_eight(&nodes, height - 3, below, leaves, steps);
+    }
+}
+
+/// Does the same, node by node: those below its left child, then those below its right one.
+fn write_low<L: Ledger>(
+    node: &[u8; 16],
+    height: u32,
+    sums: &mut [BlockPair],
+    leaves: &mut [Fe],
+    steps: &mut Steps<L>,
+)
+    requires levels { height ≤ length sums.old }
+    requires places { length leaves.old ≡ 2 ^ height }
+    ensures leaves { leaves.new ≡ leaves_below (node.now ∷ []) height }
+    ensures sums { AreAdded (node.now ∷ []) height sums.old sums.new }
+    ensures steps { steps.new + 1 ≡ steps.old + 2 ^ height }
+{
     if height == 0 {
         put_leaves(&[*node], leaves);
     } else {
         let (here, below) = sums.split_at_mut(1);
-        let children = below_one(node, &mut here[0], steps);
-        write_two(&children, height - 1, below, leaves, steps);
-    }
-}
-
-/// Writes the leaves below two nodes.
-fn write_two<L: Ledger>(
-    nodes: &[[u8; 16]; 2],
-    height: u32,
-    sums: &mut [BlockPair],
-    leaves: &mut [Fe],
-    steps: &mut Steps<L>,
-)
-    requires levels { height ≤ length sums.old }
-    requires places { length leaves.old ≡ 2 * 2 ^ height }
-    ensures leaves { leaves.new ≡ leaves_below nodes.now height }
-    ensures sums { AreAdded nodes.now height sums.old sums.new }
-    ensures steps { steps.new + 2 ≡ steps.old + 2 * 2 ^ height }
-{
-    if height == 0 {
-        put_leaves(nodes, leaves);
-    } else {
-        let (here, below) = sums.split_at_mut(1);
-        let children = below_two(nodes, &mut here[0], steps);
-        write_four(&children, height - 1, below, leaves, steps);
-    }
-}
-
-/// Writes the leaves below four nodes.
-fn write_four<L: Ledger>(
-    nodes: &[[u8; 16]; 4],
-    height: u32,
-    sums: &mut [BlockPair],
-    leaves: &mut [Fe],
-    steps: &mut Steps<L>,
-)
-    requires levels { height ≤ length sums.old }
-    requires places { length leaves.old ≡ 4 * 2 ^ height }
-    ensures leaves { leaves.new ≡ leaves_below nodes.now height }
-    ensures sums { AreAdded nodes.now height sums.old sums.new }
-    ensures steps { steps.new + 4 ≡ steps.old + 4 * 2 ^ height }
-{
-    if height == 0 {
-        put_leaves(nodes, leaves);
-    } else {
-        let (here, below) = sums.split_at_mut(1);
-        let children = below_four(nodes, &mut here[0], steps);
-        write_eight(&children, height - 1, below, leaves, steps);
+        let (left, right) = double(node, steps);
+        let half = leaves.len() / 2;
+        let (front, back) = leaves.split_at_mut(half);
+        write_low(&left, height - 1, below, front, steps);
+        write_low(&right, height - 1, below, back, steps);
+        add_children(&mut here[0], &left, &right);
     }
 }
 
