@@ -43,7 +43,8 @@ fn session_finding(
         × IsAudited prover.now task session.now × (task.file ≡ verifier.now) }
     ensures { IfOk result (λ finding. (task : VerifierTask) → task.statement ≡ statement.now
         → (audited : IsAudited prover.now task session.now)
-        → FileGives prover.now task.statement (transcript_read task audited.greeting session.now 0 0) finding) }
+        → FileGives prover.now task.statement
+        (transcript_read task audited.greeting session.now 0 0) finding) }
 {
     let held = seen_pairs(alloc, prover, verifier, session)?;
     let pairs = held.as_slice();

@@ -19,7 +19,8 @@ use Rattle.zk_model.specs.declared.Side.{Side}
 use Rattle.zk_model.specs.declared.Side.TheVariants.{Prover, Verifier}
 use Rattle.session_core.specs.Jobs.{ProverJob, Suits}
 use Rattle.session_prover.specs.Stages.{AreAskedRounds, greeting, fixed_log, setup_for, Claim, Fixes, IsLogAt, all_asks, granted_log, replied_log, sums_for, openings_for, ClaimedFor, AreSomeReplies, IsLogTaken, asked_log, rounds_log, challenged_log, IsSound, IsBehindGrant}
-use Rattle.session_prover.proofs.Heard.{fixed_sent, fixed_heard, greeted_sent, replied_sent, setup_is, all_pairs, asked_none, asked_round, fixed_by, committed, has_answered}
+use Rattle.session_prover.proofs.Heard.{fixed_sent, fixed_heard, greeted_sent, replied_sent, setup_is, fixed_by, committed, has_answered}
+use Rattle.session_prover.proofs.AskedRounds.{all_pairs, asked_none, asked_round}
 use Rattle.zk_laws.proofs.KeysFit.{keys_fit}
 use Rattle.zk_laws.proofs.Views.{rounds_are}
 use Rattle.zk_model.specs.Mac.{Pair}

@@ -27,7 +27,9 @@ use Rattle.session_prover.specs.Notes.{granted_of, StopsBehind, IsOutcome, task_
 use Rattle.std.proofs.lemmas.Option.{same_Some}
 use Rattle.session_prover.proofs.Heard.{same_stage, IsNextFrame, same_bytes_grant, turns_at, next_frame, greeted_heard, granted_heard}
 use Rattle.session_prover.proofs.Answering.{answer_leads, answer_short, suits_is}
-use Rattle.session_prover.proofs.Ending.{well_of, comes, stops_taking, ends_accepted, ends_rejected, granted_is, grant_taken, ends_ungranted, ends_unclaimed, stops_greeting, some_for, stops_answering, refuses_nothing, none_bad, Comes, KeepsDue, keeps_due, kept_log}
+use Rattle.session_prover.proofs.Ending.{well_of, comes, stops_taking, ends_accepted, ends_rejected, some_for, stops_answering, refuses_nothing, Comes, KeepsDue, keeps_due, kept_log}
+use Rattle.session_prover.proofs.FirstFrames.{granted_is, grant_taken, ends_ungranted, ends_unclaimed, stops_greeting}
+use Rattle.session_prover.proofs.GrantPlace.{none_bad}
 use Rattle.std.proofs.lemmas.List.{take_all}
 use Rattle.session_laws.proofs.Turns.{answered, fewer_answered}
 use Rattle.session_laws.proofs.Sizes.{count_is}

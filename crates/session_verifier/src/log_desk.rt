@@ -147,7 +147,8 @@ impl<'a, F: Shelf, E: Sink, W: Watch> LogDesk<'a, F, E, W> {
     pub fn close(self) -> KeptLogs<'a, F, E>
         ensures shelf { result.loan.shelf.ghost_name ≡ W.shelf }
         ensures notices { result.loan.notices.ghost_name ≡ W.notices }
-        ensures tried { TriesLogs W.prefix (change W.first (F.state result.loan.shelf.now)) result.faults.failed }
+        ensures tried { TriesLogs W.prefix
+            (change W.first (F.state result.loan.shelf.now)) result.faults.failed }
         ensures quiet { W.follows ≡ false → E.state result.loan.notices.now ≡ W.silent }
     {
         let LogDesk {
