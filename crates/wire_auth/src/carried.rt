@@ -33,6 +33,9 @@ pub(crate) trait Carried: Copy {
     /// The difference of each part.
     fn less(self, other: Self) -> Self
         ensures { (which : Part) → part which result ≡ part which self -ₚ part which other };
+
+    /// A word of it, by which it is read ahead of its use.
+    fn word(self) -> u64;
 }
 
 impl Carried for Fe {
@@ -61,6 +64,11 @@ impl Carried for Fe {
     #[inline(always)]
     fn less(self, other: Self) -> Self {
         self - other
+    }
+
+    #[inline(always)]
+    fn word(self) -> u64 {
+        self.value()
     }
 }
 
@@ -106,5 +114,10 @@ impl Carried for Pair {
             x: self.x - other.x,
             m: self.m - other.m,
         }
+    }
+
+    #[inline(always)]
+    fn word(self) -> u64 {
+        self.m.value()
     }
 }

@@ -13,8 +13,12 @@ use field_program::{FieldProgram, SlotPlan, Step, StepSlots};
 use std::alloc::{AllocError, Global};
 use std::marker::Model;
 
+/// For so many steps slots are read ahead of them, all at once.
+const AHEAD: usize = 256;
+
 /// A walk along a program's steps over what it carries: values, MACs or keys, or values and MACs side by side. It holds those of no more
-/// wires than are live at once. It comes to one product after another.
+/// wires than are live at once. It comes to one product after another. Before it follows steps it reads the slots of many: these reads wait
+/// for the memory side by side, where each step's own would wait for it alone.
 #[derive(Debug, Drop)]
 pub(crate) struct StepWalk<'a, N: Carried> {
     program: &'a FieldProgram,
@@ -23,6 +27,8 @@ pub(crate) struct StepWalk<'a, N: Carried> {
     slots: Vec<N>,
     steps: usize,
     met: usize,
+    /// The slots of the steps up to this one have been read.
+    read: usize,
 }
 
 impl<'a, N: Carried> Model for StepWalk<'a, N> {
@@ -221,6 +227,46 @@ fn factor_slots(program: &FieldProgram, plan: &SlotPlan, steps: usize, met: usiz
     (at.a, at.b)
 }
 
+/// Reads the slots of the steps from one on, and says up to which. No word of an element has a bit above the 61st, so what they are is of
+/// no account; but a compiler leaves out what no answer rests on.
+fn read_ahead<N: Carried>(
+    program: &FieldProgram,
+    plan: &SlotPlan,
+    slots: &[N],
+    from: usize,
+) -> usize
+    requires from { from ≤ length program.now.steps }
+    requires plan { IsPlanOf program.now plan.now }
+    requires whole { length slots.now ≡ plan.now.slots }
+{
+    let count = AHEAD.min(program.steps() - from);
+    let mut words = 0;
+    for k in from..from + count {
+        let at = plan.step_slots(k);
+        words = words | slots[at.a as usize].word() | slots[at.b as usize].word();
+    }
+    (from + count).max((words >> 61) as usize)
+}
+
+/// Reads slots ahead of the steps from one on, where those up to it alone have been read. Says up to which step they have.
+#[inline(always)]
+fn read_upto<N: Carried>(
+    program: &FieldProgram,
+    plan: &SlotPlan,
+    slots: &[N],
+    from: usize,
+    read: usize,
+) -> usize
+    requires from { from ≤ length program.now.steps }
+    requires plan { IsPlanOf program.now plan.now }
+    requires whole { length slots.now ≡ plan.now.slots }
+{
+    if from < read {
+        return read;
+    }
+    read_ahead(program, plan, slots, from)
+}
+
 impl<'a, N: Carried> StepWalk<'a, N> {
     /// A walk that has met no product yet. The first wires have these: the public wires, and then the private inputs.
     ///
@@ -251,6 +297,7 @@ impl<'a, N: Carried> StepWalk<'a, N> {
             slots,
             steps,
             met: 0,
+            read: 0,
         })
     }
 
@@ -301,6 +348,7 @@ impl<'a, N: Carried> StepWalk<'a, N> {
             ..
         } = *self;
         let _products = program.products();
+        let read = read_upto(program, plan, &self.slots, self.steps, self.read);
         self.steps = pass_product(
             program,
             self.steps,
@@ -311,6 +359,7 @@ impl<'a, N: Carried> StepWalk<'a, N> {
             number,
         );
         self.met += 1;
+        self.read = read;
     }
 
     /// What opened wire o has, after the last product.
