@@ -1,4 +1,4 @@
-// What several threads can share at either end: the rounds of all units of a grant, and the sums of products.
+// What several threads can share at either end: the rounds of all units of a grant. The sums of products are made on one.
 ghost use Rattle.std.specs.Prelude.{◌≡◌, ◌+◌, ◌*◌, ◌≤◌, length, All, IfOk, IfErr, OnOk};
 ghost use Rattle.std.specs.Thread.{IsSync};
 ghost use Rattle.zk_model.specs.Check.{AllSectionsHold, all_sums};
@@ -16,7 +16,7 @@ ghost use Rattle.round_fan.specs.Fans.{lists_of, ArePairsFrom, replies_from};
 use dealer_files::{ProverFile, VerifierFile};
 use linear_code::Columns;
 use mersenne_field::{Fe, Pair};
-use mult_check::{SentSums, StreamFault, check_along, stream_check, stream_sums, sums_along};
+use mult_check::{SentSums, StreamFault, check_along, sums_along};
 use round_fan::{FanReply, fan_prover, fan_verifier, unit_pairs, unit_replies};
 use std::alloc::{AllocError, Global};
 use std::thread::Threads;
@@ -25,7 +25,8 @@ use wire_auth::{ProverWalk, VerifierWalk};
 use zk_model::Span;
 
 /// What does the rounds of all units of a span, the prover's pairs and the verifier's replies and keys, and the sums of products along
-/// a walk. What comes out is the same whoever does it.
+/// a walk. What comes out is the same whoever does it. Sums are made on the caller's own thread, as the walk gives products: it takes
+/// longer than they do.
 pub trait Workers {
     /// What a call needs besides: nothing on one thread, and of many that they may share what makes them.
     ghost is_ready: { Self → Type 0 };
@@ -89,12 +90,15 @@ pub trait Workers {
         ensures met { OnOk result (length walk.old.side.program.products ≤ walk.new.met) }
         ensures sums { IfOk result (λ v. v.items
             ≡ all_sums walk.old.side.program g challenge walk.old.side.pairs masks.now) }
-        ensures one_each { IfOk result (λ v. length v.items ≡ length masks.now) };
+        ensures one_each { IfOk result (λ v. length v.items ≡ length masks.now) }
+    {
+        sums_along(alloc, walk, g, challenge, masks)
+    }
 
     /// The verifier's check of all sections, of a walk that has given no product yet.
     fn check(
         &self,
-        alloc: Global,
+        _alloc: Global,
         walk: &mut VerifierWalk<'_>,
         sent: &SentSums<'_>,
     ) -> Result<(), StreamFault>
@@ -108,7 +112,10 @@ pub trait Workers {
         ensures met { OnOk result (length walk.old.side.program.products ≤ walk.new.met) }
         ensures holds { IfOk result (λ _. AllSectionsHold (sent_check walk.old.side sent.now)) }
         ensures differs { IfErr result (λ e. (d : Differs) → e ≡ stream.Differs d
-            → SectionDiffersFirst (sent_check walk.old.side sent.now) d) };
+            → SectionDiffersFirst (sent_check walk.old.side sent.now) d) }
+    {
+        Ok(check_along(walk, sent)?)
+    }
 }
 
 /// On the caller's own thread.
@@ -139,29 +146,9 @@ impl Workers for OneThread {
     ) -> Result<FanReply, AllocError> {
         unit_replies(alloc, file, columns, span.start, asks)
     }
-
-    fn sums(
-        &self,
-        alloc: Global,
-        walk: &mut ProverWalk<'_>,
-        g: u64,
-        challenge: Fe,
-        masks: &[Pair],
-    ) -> Result<Vec<(Fe, Fe)>, AllocError> {
-        sums_along(alloc, walk, g, challenge, masks)
-    }
-
-    fn check(
-        &self,
-        _alloc: Global,
-        walk: &mut VerifierWalk<'_>,
-        sent: &SentSums<'_>,
-    ) -> Result<(), StreamFault> {
-        Ok(check_along(walk, sent)?)
-    }
 }
 
-/// By so many workers, of which each has a thread. A thread that cannot be made costs time alone.
+/// Rounds by so many workers, of which each has a thread. A thread that cannot be made costs time alone.
 #[derive(Drop)]
 pub struct Fan<'a, R> {
     rt: &'a R,
@@ -203,25 +190,5 @@ impl<'a, R: Threads + Sync> Workers for Fan<'a, R> {
         asks: &[Vec<TreeAsk>],
     ) -> Result<FanReply, AllocError> {
         fan_verifier(self.rt, alloc, file, columns, span, asks, self.workers)
-    }
-
-    fn sums(
-        &self,
-        alloc: Global,
-        walk: &mut ProverWalk<'_>,
-        g: u64,
-        challenge: Fe,
-        masks: &[Pair],
-    ) -> Result<Vec<(Fe, Fe)>, AllocError> {
-        stream_sums(self.rt, alloc, walk, g, challenge, masks, self.workers)
-    }
-
-    fn check(
-        &self,
-        alloc: Global,
-        walk: &mut VerifierWalk<'_>,
-        sent: &SentSums<'_>,
-    ) -> Result<(), StreamFault> {
-        stream_check(self.rt, alloc, walk, sent, self.workers)
     }
 }

@@ -1,4 +1,4 @@
-use Rattle.std.proofs.Common.{◌≡◌, take, drop, length, ap, ◌∙◌, arith}
+use Rattle.std.proofs.Common.{◌≡◌, take, drop, ap, ◌∙◌, arith}
 use Rattle.zk_model.specs.Program.{Program, section_count}
 use Rattle.zk_model.specs.Check.{all_sums}
 use Rattle.zk_model.specs.Transcript.{Grant}
