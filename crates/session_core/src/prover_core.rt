@@ -151,7 +151,7 @@ impl<'a> ProverCore<'a> {
         self.advance(&OneThread, alloc, frame)
     }
 
-    /// Does the same, and has so many workers for the rounds of all units and for the sums.
+    /// Does the same, and has so many workers for the rounds of all units.
     ///
     /// # Errors
     ///
@@ -177,7 +177,7 @@ impl<'a> ProverCore<'a> {
         self.advance(&Fan::new(rt, workers), alloc, frame)
     }
 
-    /// Does the same, and has the rounds of all units and the sums done so.
+    /// Does the same, and has the rounds of all units done so.
     fn advance<H: Workers>(
         &mut self,
         workers: &H,

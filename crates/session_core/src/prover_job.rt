@@ -1,5 +1,6 @@
 // What a prover is to do, and how it answers a grant and a challenge.
 ghost use Rattle.std.specs.Prelude.{◌≡◌, true, false, ◌+◌, ◌*◌, ◌≤◌, ◌^◌, ℕ, List, length, take, drop, IfOk};
+ghost use Rattle.zk_model.specs.Boolean.{bits_of_products};
 ghost use Rattle.zk_model.specs.Mac.{macs_of};
 ghost use Rattle.zk_model.specs.Program.{AreMade, section_count};
 ghost use Rattle.zk_model.specs.Files.{correlations_per_unit, span_pairs};
@@ -20,7 +21,7 @@ use mersenne_field::{Fe, Pair};
 use proof_frames::{Grant, Hello};
 use std::alloc::{AllocError, Global};
 use std::marker::Model;
-use wire_auth::{ProverWalk, walk_corrections};
+use wire_auth::{ProverWalk, bit_corrections, walk_corrections};
 use zk_model::{MAX_SECTION_LENGTH, MAX_UNITS, Span};
 
 /// What a prover is to do: its statement and its file, and the values of its private inputs.
@@ -168,6 +169,34 @@ impl<'a> ProverJob<'a> {
         let public = self.statement.public();
         let _givens = program.givens();
         let corrections = walk_corrections(alloc, program, plan, public, self.inputs, pairs)?;
+        Ok(corrections)
+    }
+
+    /// Does the same where these bits, which all wires have, make the given values: there is no walk then.
+    ///
+    /// # Errors
+    ///
+    /// Only where memory runs out.
+    pub fn commit_bits(
+        &self,
+        alloc: Global,
+        grant: Grant,
+        pairs: &[Pair],
+        bits: &[bool],
+    ) -> Result<Vec<Fe>, AllocError>
+        requires at_least_one { 1 ≤ grant.section_length }
+        requires enough { AreEnough self.now grant.section_length pairs.now }
+        requires whole { length bits.now ≡ self.now.statement.program.wires }
+        requires made { self.now.given ≡ bits_of_products self.now.statement.program.products bits.now }
+        ensures fixed { IfOk result (λ d. IsFixed self.now.statement self.now.given
+            pairs.now d.items (pairs_fixed self.now pairs.now)) }
+        ensures one_each { IfOk result (λ d. length d.items ≡ self.now.statement.program.givens) }
+    {
+        let program = self.statement.program();
+        let public = self.statement.public();
+        let _givens = program.givens();
+        let _count = public.len();
+        let corrections = bit_corrections(alloc, program, bits, pairs)?;
         Ok(corrections)
     }
 

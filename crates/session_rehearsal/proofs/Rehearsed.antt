@@ -17,6 +17,7 @@ use Rattle.zk_model.specs.declared.Side.{Side}
 use Rattle.zk_model.specs.declared.Side.TheVariants.{Verifier}
 use Rattle.zk_model.specs.declared.Verdict.{Verdict}
 use Rattle.zk_model.specs.declared.Verdict.TheVariants.{Accepted}
+use Rattle.wire_auth.specs.Values.{given_made, BitsMakeProducts}
 use Rattle.circuit_laws.specs.Circuits.{BitsSolve}
 use Rattle.zk_laws.specs.Completeness.{HonestSessionIsAccepted}
 use Rattle.circuit_laws.proofs.BitsSolve.{value_of_bit}
@@ -26,6 +27,16 @@ use Rattle.session_rehearsal.proofs.Spelled.{before_verdict, ends_with_verdict}
 use Rattle.session_core.specs.Ends.{whole_grant}
 use Rattle.session_rehearsal.specs.Holding.{BothEnds, IsSessionOf, ends_from}
 use Rattle.session_rehearsal.specs.Rehearsals.{rehearsed_params, AreRehearsedFiles, EndsWithVerdict, rehearsed_prover, rehearsed_verifier}
+
+-- ---- the witness
+
+-- inputs make the products of the bits that all wires have then
+pub made_products : (circuit : Circuit) (public inputs bits : List Bool) → BitsMakeProducts → IsWellFormed circuit → length public ≤ circuit.inputs
+    → AreWireBits circuit (public ++ inputs) bits
+    → given_made (circuit_program (length public) circuit) (map from_bit public) (map from_bit inputs) ≡ products_of_bits (length public) circuit bits
+made_products circuit public inputs bits law formed few met =
+    (λ i. given_made (circuit_program (length public) circuit) (map from_bit (sym (take-append_seam public inputs) i)) (map from_bit (sym (drop-append_seam public inputs) i)))
+    ∙ law (length public) circuit (public ++ inputs) bits formed few met
 
 -- ---- the grant
 

@@ -7,13 +7,14 @@ ghost use Rattle.zk_model.specs.View.{span_of};
 ghost use Rattle.zk_model.specs.declared.Kind.TheVariants.{Extended};
 ghost use Rattle.zk_model.specs.declared.Side.{Side};
 ghost use Rattle.wire_auth.specs.Held.{items_in};
+ghost use Rattle.wire_auth.specs.Values.{given_made};
 ghost use Rattle.session_core.specs.Ends.{whole_grant};
 ghost use Rattle.session_core.specs.Jobs as jobs;
 ghost use Rattle.session_core.specs.Jobs.{units_of_job, granted_from, prover_from};
 ghost use Rattle.session_core.specs.Fixing.{HoldsKeys};
 ghost use Rattle.session_rehearsal.specs.Exchanges.{IsExchangeNoted, IsShortExchange, AreShort, round_log};
 ghost use Rattle.session_rehearsal.specs.Answers.{IsAnswered, IsCounted};
-ghost use Rattle.session_rehearsal.specs.Holding.{AreRoundsHeld, HoldsRounds, IsSessionOf, ends_of, ends_with};
+ghost use Rattle.session_rehearsal.specs.Holding.{AreBitsOf, AreRoundsHeld, HoldsRounds, IsSessionOf, ends_of, ends_with};
 
 use dealer_files::{ProverFile, VerifierFile};
 use mersenne_field::{Fe, Pair};
@@ -65,17 +66,21 @@ pub(crate) struct OpenedSession<'v> {
     pub(crate) opened: Opened,
 }
 
-/// A session of both ends over all units of their files. The prover's file is given up once it has answered the challenge.
+/// A session of both ends over all units of their files. The prover's file is given up once it has answered the challenge. All wires
+/// have these bits, at these inputs.
 pub(crate) fn run_session<R: Threads + Sync>(
     rt: &R,
     alloc: Global,
     statement: &Statement<'_>,
     inputs: &[Fe],
+    bits: &[bool],
     prover_file: ProverFile,
     verifier_file: &VerifierFile,
     section: u32,
 ) -> Result<SessionValues, AllocError>
     requires inputs { length inputs.now ≡ statement.now.program.inputs }
+    requires bits { AreBitsOf (given_made statement.now.program statement.now.public inputs.now)
+        statement.now.program bits.now }
     requires dealt { AreDealt prover_file verifier_file.now }
     requires granted { IsGrant prover_file.params statement.now.program
         (whole_grant prover_file.params.total section) }
@@ -85,7 +90,7 @@ pub(crate) fn run_session<R: Threads + Sync>(
     ensures short { IfOk result IsShortExchange }
 {
     let verifier = VerifierJob::new(statement, verifier_file, section);
-    let answered = answer(rt, alloc, statement, inputs, &prover_file, &verifier)?;
+    let answered = answer(rt, alloc, statement, inputs, bits, &prover_file, &verifier)?;
     drop(prover_file);
     let exchange = judge(rt, alloc, &verifier, answered)?;
     Ok(exchange)
@@ -97,10 +102,13 @@ fn answer<'v, R: Threads + Sync>(
     alloc: Global,
     statement: &Statement<'_>,
     inputs: &[Fe],
+    bits: &[bool],
     prover_file: &ProverFile,
     verifier: &VerifierJob<'v>,
 ) -> Result<OpenedSession<'v>, AllocError>
     requires inputs { length inputs.now ≡ statement.now.program.inputs }
+    requires bits { AreBitsOf (given_made statement.now.program statement.now.public inputs.now)
+        statement.now.program bits.now }
     requires stated { statement.now ≡ verifier.now.task.statement }
     requires dealt { AreDealt prover_file.now verifier.now.task.file }
     requires within { units_of_job verifier.now ≤ verifier.now.task.file.params.total }
@@ -111,7 +119,7 @@ fn answer<'v, R: Threads + Sync>(
     let prover = ProverJob::new(statement, prover_file, inputs);
     let grant = verifier.grant(0);
     let established = establish(rt, alloc, &prover, verifier, grant)?;
-    let answered = open(rt, alloc, &prover, verifier, grant, established)?;
+    let answered = open(rt, alloc, &prover, verifier, grant, bits, established)?;
     Ok(answered)
 }
 
@@ -205,10 +213,12 @@ fn open<'p, 'v, R: Threads + Sync>(
     prover: &ProverJob<'p>,
     verifier: &VerifierJob<'v>,
     grant: Grant,
+    bits: &[bool],
     established: Correlated<'p, 'v>,
 ) -> Result<OpenedSession<'v>, AllocError>
     requires stated { prover.now.statement ≡ verifier.now.task.statement }
     requires dealt { AreDealt prover.now.file verifier.now.task.file }
+    requires bits { AreBitsOf prover.now.given prover.now.statement.program bits.now }
     requires grant { grant ≡ granted_from verifier.now 0 }
     requires held { HoldsRounds prover.now.file verifier.now.task.file grant
         (items_in established.pairs) [] (round_log established.asked.items established.replied.items) }
@@ -228,7 +238,7 @@ fn open<'p, 'v, R: Threads + Sync>(
         keys,
     } = established;
     let seen = pairs.as_slice();
-    let corrections = prover.commit(alloc, grant, seen)?;
+    let corrections = prover.commit_bits(alloc, grant, seen, bits)?;
     let challenge = verifier.challenge(0);
     let workers = Fan::new(rt, SESSION_WORKERS);
     let opened = prover.open(&workers, alloc, grant, seen, challenge)?;

@@ -8,9 +8,10 @@ ghost use Rattle.zk_model.specs.Program.{correlations_needed};
 ghost use Rattle.zk_model.specs.Transcript.{units_for};
 ghost use Rattle.zk_model.specs.declared.Kind.{Kind};
 ghost use Rattle.zk_model.specs.declared.Side.{Side};
+ghost use Rattle.wire_auth.specs.Values.{given_made};
 ghost use Rattle.session_core.specs.Ends.{whole_grant};
 ghost use Rattle.session_rehearsal.specs.Exchanges.{IsExchangeNoted, IsShortExchange};
-ghost use Rattle.session_rehearsal.specs.Holding.{IsSessionOf, ends_with};
+ghost use Rattle.session_rehearsal.specs.Holding.{AreBitsOf, IsSessionOf, ends_with};
 ghost use Rattle.session_rehearsal.specs.Rehearsals.{IsClaimed, IsRehearsalOf, RehearseCause, AreRehearsedFiles, rehearsed_params};
 ghost use Rattle.zk_model.specs.declared.limits.TheConstants.{MAX_SECTION_LENGTH, MAX_UNITS};
 
@@ -54,6 +55,7 @@ fn exchange_dealt<R: Threads + Sync>(
     alloc: Global,
     statement: &Statement<'_>,
     inputs: &[Fe],
+    bits: &[bool],
     kind: Kind,
     section: u32,
     units: u64,
@@ -62,6 +64,8 @@ fn exchange_dealt<R: Threads + Sync>(
     requires at_least_one { 1 ≤ section }
     requires at_most { section ≤ MAX_SECTION_LENGTH }
     requires inputs { length inputs.now ≡ statement.now.program.inputs }
+    requires bits { AreBitsOf (given_made statement.now.program statement.now.public inputs.now)
+        statement.now.program bits.now }
     requires units { units
         ≡ units_for (rehearsed_params kind 0) (correlations_needed statement.now.program section) }
     requires units_some { 1 ≤ units }
@@ -76,16 +80,19 @@ fn exchange_dealt<R: Threads + Sync>(
 {
     let params = rehearsed_params(kind, units);
     let (prover, verifier) = deal(alloc, &params, seed)?;
-    let exchange = run_session(rt, alloc, statement, inputs, prover, &verifier, section)?;
+    let exchange = run_session(
+        rt, alloc, statement, inputs, bits, prover, &verifier, section,
+    )?;
     Ok(exchange)
 }
 
-/// A rehearsal of a claim whose prover has these values of its inputs.
+/// A rehearsal of a claim whose prover has these values of its inputs, and all of whose wires have these bits then.
 fn rehearse_claim<R: Threads + Sync>(
     rt: &R,
     alloc: Global,
     claim: &CircuitClaim,
     inputs: &[Fe],
+    wires: &[bool],
     outputs: Bits,
     kind: Kind,
     section: u32,
@@ -94,6 +101,8 @@ fn rehearse_claim<R: Threads + Sync>(
     requires at_least_one { 1 ≤ section }
     requires at_most { section ≤ MAX_SECTION_LENGTH }
     requires inputs { length inputs.now ≡ claim.now.program.inputs }
+    requires bits { AreBitsOf (given_made claim.now.program claim.now.public inputs.now)
+        claim.now.program wires.now }
     ensures done { IfOk result (λ r. (circuit : Circuit) (public bits wires : List Bool)
         → inputs.now ≡ map from_bit bits → IsClaimed circuit public bits wires outputs claim.now
         → IsRehearsalOf circuit public bits kind section seed.now r) }
@@ -113,7 +122,9 @@ fn rehearse_claim<R: Threads + Sync>(
     if units > MAX_UNITS {
         return Err(RehearseFault::TooLarge { need, units });
     }
-    let exchange = exchange_dealt(rt, alloc, &statement, inputs, kind, section, units, seed)?;
+    let exchange = exchange_dealt(
+        rt, alloc, &statement, inputs, wires, kind, section, units, seed,
+    )?;
     let log = note(alloc, &exchange)?;
     Ok(Rehearsal {
         outputs,
@@ -176,12 +187,14 @@ pub fn rehearse<R: Threads + Sync>(
     ensures done { IfOk result (IsRehearsalOf circuit public.now bits.now kind section seed.now) }
     ensures cause { IfErr result (RehearseCause circuit public.now bits.now kind section) }
 {
+    bits_make_products();
     let _wires = circuit.wires();
     let wires = wires_at(alloc, &circuit, public, bits)?;
     let outputs = Bits::copied(alloc, output_bits(&circuit, &wires))?;
-    drop(wires);
     let claim = CircuitClaim::new(alloc, circuit, [0; 32], public, outputs.as_slice())?;
     let inputs = elements_of(alloc, bits)?;
-    let rehearsal = rehearse_claim(rt, alloc, &claim, &inputs, outputs, kind, section, seed)?;
+    let rehearsal = rehearse_claim(
+        rt, alloc, &claim, &inputs, &wires, outputs, kind, section, seed,
+    )?;
     Ok(rehearsal)
 }

@@ -1,19 +1,25 @@
 -- So many corrections, made one after another.
 use Rattle.std.proofs.Common.{◌≡◌, ◌<◌, ◌≤◌, ◌+◌, ◌∙◌, ℕ, List, All, arith, length, take, ap, sym, subst, ⊎_elim}
 use Rattle.std.proofs.lemmas.Bool.{cases_lt}
-use Rattle.std.proofs.lemmas.List.{take_all}
+use Rattle.std.proofs.lemmas.List.{take_all, length-map}
+use Rattle.std.proofs.lemmas.List.Elements.{All-map}
+use Rattle.std.specs.Prelude.{Bool, ◌&&◌}
+use Rattle.zk_model.specs.Bits.{from_bit}
+use Rattle.zk_model.specs.Boolean.{bits_of_products}
+use Rattle.zk_model.specs.Circuit.{bit_of}
+use Rattle.zk_model.specs.declared.Product.{Product}
 use Rattle.zk_model.specs.Field.{IsElement}
 use Rattle.zk_model.specs.HonestProver.{honest_corrections}
 use Rattle.zk_model.specs.Mac.{Pair, macs_of, corrected_pairs}
 use Rattle.zk_model.specs.Program.{Program}
 use Rattle.zk_model.specs.Check.{ArePairsOf}
+use Rattle.circuit_laws.proofs.BitsSolve.{bit_element}
 use Rattle.field_program.specs.Programs.{IsSmallProgram}
-use Rattle.wire_auth.specs.Values.{wires_made, given_from, numbers_carried}
+use Rattle.wire_auth.specs.Values.{wires_made, given_from, given_made, numbers_carried}
 use Rattle.wire_auth.specs.Walks.{side_made}
 use Rattle.wire_auth.proofs.BothWalks.{values_made, macs_made}
 use Rattle.wire_auth.proofs.Joined.{joined_is_corrected, are_pairs}
 use Rattle.wire_auth.proofs.Lengths.{length-honest_corrections}
-use Rattle.wire_auth.proofs.Making.{length-given_from}
 
 -- one more of the given values is an element
 pub one_more : (P : ℕ → Type 0) (n : ℕ) → ((k : ℕ) → k < n → P k) → P n → (k : ℕ) → k < n + 1 → P k
@@ -22,15 +28,14 @@ one_more P n before now k below = ⊎_elim
     (λ past. let same : n ≡ k = omega (arith, past, below) in subst P same now)
     (cases_lt k n)
 
--- all corrections, once as many are made as there are products
-pub all_made : (program : Program) (values corrections : List ℕ) (dealt : List Pair) (n : ℕ) → length program.products ≡ program.givens
-    → program.givens ≤ length dealt → length program.products ≤ n
-    → corrections ≡ take n (honest_corrections (given_from program values) dealt)
-    → (corrections ≡ honest_corrections (given_from program values) dealt) × (length corrections ≡ program.givens)
-all_made program values corrections dealt n counted enough end far =
-    let sized = length-given_from program values in
-    let all = length-honest_corrections (given_from program values) dealt (omega (arith, sized, counted, enough)) in
-    let are = far ∙ take_all n (honest_corrections (given_from program values) dealt) (omega (arith, sized, all, end)) in
+-- all corrections to given values, of which each product has one, once as many are made as there are products
+pub all_made : (program : Program) (given corrections : List ℕ) (dealt : List Pair) (n : ℕ) → length given ≡ length program.products
+    → length program.products ≡ program.givens → program.givens ≤ length dealt → length program.products ≤ n
+    → corrections ≡ take n (honest_corrections given dealt)
+    → (corrections ≡ honest_corrections given dealt) × (length corrections ≡ program.givens)
+all_made program given corrections dealt n sized counted enough end far =
+    let all = length-honest_corrections given dealt (omega (arith, sized, counted, enough)) in
+    let are = far ∙ take_all n (honest_corrections given dealt) (omega (arith, sized, all, end)) in
     (are, ap length are ∙ all ∙ sized ∙ counted)
 
 -- they make the given values' pairs of the dealt ones
@@ -48,3 +53,25 @@ walked_pairs program public inputs dealt held p few enough =
     are_pairs program public inputs (wires_made program public inputs) (numbers_carried 0 program public (take program.givens (macs_of dealt))) dealt
     held.counted enough ((values_made program public inputs held p few).carried.whole ∙ sym (macs_made program public dealt held p enough).whole)
     (values_made program public inputs held p few) (macs_made program public dealt held p enough)
+
+-- ---- of bits
+
+abbrev product_bit : List Bool → Product → ℕ
+product_bit bits product = from_bit (bit_of bits product.a && bit_of bits product.b)
+
+pub length-bits_of_products : (products : List Product) (bits : List Bool) → length (bits_of_products products bits) ≡ length products
+length-bits_of_products products bits = length-map products (product_bit bits)
+
+bits_are_elements : (products : List Product) (bits : List Bool) → All IsElement (bits_of_products products bits)
+bits_are_elements products bits = All-map IsElement (product_bit bits) products (λ k d below. bit_element _)
+
+-- Where inputs make the products of bits, corrections that are made of the bits are those of a walk.
+pub bits_walked : (program : Program) (public inputs : List ℕ) (bits : List Bool) (corrections : List ℕ) (dealt : List Pair)
+    → given_made program public inputs ≡ bits_of_products program.products bits
+    → corrections ≡ honest_corrections (bits_of_products program.products bits) dealt
+    → (corrections ≡ honest_corrections (given_made program public inputs) dealt)
+    × ((side_made program public inputs dealt).pairs.given ≡ corrected_pairs dealt corrections)
+unfolding given_made
+bits_walked program public inputs bits corrections dealt made are =
+    let walked = are ∙ ap (λ (l : List ℕ). honest_corrections l dealt) (sym made) in
+    (walked, walked_given program public inputs corrections dealt (subst (All IsElement) (sym made) (bits_are_elements program.products bits)) walked)

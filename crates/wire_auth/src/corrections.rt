@@ -1,6 +1,7 @@
 // What a prover sends to fix its given values.
 ghost use Rattle.std.specs.Prelude.{◌≡◌, ◌+◌, ◌≤◌, ◌<◌, ℕ, List, length, slice_index, IfOk, All};
 ghost use Rattle.zk_model.specs.Check.{ArePairsOf};
+ghost use Rattle.zk_model.specs.Boolean.{bits_of_products};
 ghost use Rattle.zk_model.specs.Field.{IsElement};
 ghost use Rattle.zk_model.specs.HonestProver.{honest_corrections};
 ghost use Rattle.zk_model.specs.Mac.{corrected_pairs};
@@ -93,6 +94,44 @@ pub fn walk_corrections(
     let mut corrections = Vec::with_capacity(alloc, program.products())?;
     for i in 0..program.products() {
         let value = meet_value(&mut walk);
+        let pair = dealt[i];
+        corrections.push(value - pair.x)?;
+    }
+    Ok(corrections)
+}
+
+/// The bit of a product of wires that have these bits.
+#[inline(always)]
+fn product_bit(program: &FieldProgram, bits: &[bool], i: usize) -> Fe
+    requires bits { length bits.now ≡ program.now.wires }
+    requires there { i < length program.now.products }
+    ensures { result ≡ slice_index (bits_of_products program.now.products bits.now) i }
+{
+    let product = program.product(i);
+    Fe::from_bit(bits[product.a as usize] & bits[product.b as usize])
+}
+
+/// The corrections that turn dealt pairs into those of the products of these bits, which all wires have: for each the product less the
+/// dealt value. Where the bits are a circuit's, they are those that `walk_corrections` makes.
+///
+/// # Errors
+///
+/// Only where memory runs out.
+pub fn bit_corrections(
+    alloc: Global,
+    program: &FieldProgram,
+    bits: &[bool],
+    dealt: &[Pair],
+) -> Result<Vec<Fe>, AllocError>
+    requires bits { length bits.now ≡ program.now.wires }
+    requires dealt { program.now.givens ≤ length dealt.now }
+    ensures corrections { IfOk result (λ v. v.items
+        ≡ honest_corrections (bits_of_products program.now.products bits.now) dealt.now) }
+    ensures one_each { IfOk result (λ v. length v.items ≡ program.now.givens) }
+{
+    let mut corrections = Vec::with_capacity(alloc, program.products())?;
+    for i in 0..program.products() {
+        let value = product_bit(program, bits, i);
         let pair = dealt[i];
         corrections.push(value - pair.x)?;
     }

@@ -1,4 +1,4 @@
-use Rattle.std.proofs.Common.{◌≡◌, ℕ, ◌*◌, ◌∙◌, ap, sym, refl, subst, map, length, arith, List, Vec, Global}
+use Rattle.std.proofs.Common.{◌≡◌, ℕ, ◌*◌, ◌∙◌, ap, sym, refl, subst, map, length, List, Vec, Global}
 use Rattle.std.proofs.lemmas.List.{length-map}
 use Rattle.zk_model.specs.Frames as model
 use Rattle.zk_model.specs.Files.{correlations_per_unit}

@@ -1,21 +1,20 @@
 use Rattle.std.proofs.Common.{◌≡◌, ◌∙◌, ◌≤◌, ◌++◌, ℕ, Bool, List, arith, length-append, ap, sym, subst, length, map, drop, replicate, rules}
 use Rattle.std.proofs.lemmas.List.{length-take-le}
-use Rattle.std.proofs.Math.Seq.{take-append_seam, drop-append_seam}
 use Rattle.zk_model.specs.Bits.{from_bit}
 use Rattle.zk_model.specs.Circuit.{Circuit, IsWellFormed, AreWireBits, output_wire}
 use Rattle.zk_model.specs.Program.{Program, section_count, correlations_needed}
-use Rattle.zk_model.specs.Boolean.{private_inputs, bits_of_products, products_of_bits, circuit_program}
+use Rattle.zk_model.specs.Boolean.{private_inputs, bits_of_products, circuit_program}
 use Rattle.zk_model.specs.Files.{ProverFile, VerifierFile}
 use Rattle.dealer_files.specs.Dealing.{dealt_prover, dealt_verifier}
 use Rattle.zk_model.specs.Statement.{Statement, circuit_statement}
 use Rattle.zk_model.specs.Transcript.{units_for}
 use Rattle.zk_model.specs.declared.Kind.{Kind}
 use Rattle.zk_model.specs.declared.Params.{Params}
-use Rattle.wire_auth.specs.Values.{given_made, BitsMakeProducts}
+use Rattle.wire_auth.specs.Values.{given_made}
 use Rattle.session_core.specs.Ends.{whole_grant}
 use Rattle.session_rehearsal.specs.Holding.{BothEnds, IsSessionOf, ends_with, ends_from}
 use Rattle.session_rehearsal.specs.Rehearsals.{rehearsed_params, rehearsal_need, rehearsal_units}
-use Rattle.session_rehearsal.proofs.Rehearsed.{accepted_session, units_are, session_ends}
+use Rattle.session_rehearsal.proofs.Rehearsed.{accepted_session, made_products, units_are, session_ends}
 use Rattle.session_rehearsal.proofs.rehearsing.rehearse_claim.Goals as goal
 
 -- what both ends have, where the given values that inputs make are those of bits
@@ -43,13 +42,6 @@ private_count circuit public inputs bits formed met =
     let whole : circuit.inputs ≤ length bits = let all = met.whole in omega (arith, all, formed.inputs_within) in
     let counted = length-take-le circuit.inputs bits whole in
     omega (arith, counted, ap length met.first, length-append public inputs)
-
-made_products : (circuit : Circuit) (public inputs bits : List Bool) → BitsMakeProducts → IsWellFormed circuit → length public ≤ circuit.inputs
-    → AreWireBits circuit (public ++ inputs) bits
-    → given_made (circuit_program (length public) circuit) (map from_bit public) (map from_bit inputs) ≡ products_of_bits (length public) circuit bits
-made_products circuit public inputs bits law formed few met =
-    (λ i. given_made (circuit_program (length public) circuit) (map from_bit (sym (take-append_seam public inputs) i)) (map from_bit (sym (drop-append_seam public inputs) i)))
-    ∙ law (length public) circuit (public ++ inputs) bits formed few met
 
 pub returns-then-units-gt-MAX_UNITS-clause-cause : goal.returns-then-units-gt-MAX_UNITS-clause-cause
 returns-then-units-gt-MAX_UNITS-clause-cause g c circuit public inputs bits claimed =

@@ -30,12 +30,14 @@ loop-i-preserved c =
 
 pub returns-clause-corrections : goal.returns-clause-corrections
 returns-clause-corrections c =
-    (all_made c.args.program.now c.args.values.now _ c.args.dealt.now c.loop-i.i c.products.ensures.held.counted c.requires.dealt
+    (all_made c.args.program.now (given_from c.args.program.now c.args.values.now) _ c.args.dealt.now c.loop-i.i
+    (length-given_from c.args.program.now c.args.values.now) c.products.ensures.held.counted c.requires.dealt
     (omega (arith, c.loop-i-test.false, c.products-i-end.ensures.count)) c.loop-i.invariant.so_far).0
 
 pub returns-clause-one_each : goal.returns-clause-one_each
 returns-clause-one_each c =
-    (all_made c.args.program.now c.args.values.now _ c.args.dealt.now c.loop-i.i c.products.ensures.held.counted c.requires.dealt
+    (all_made c.args.program.now (given_from c.args.program.now c.args.values.now) _ c.args.dealt.now c.loop-i.i
+    (length-given_from c.args.program.now c.args.values.now) c.products.ensures.held.counted c.requires.dealt
     (omega (arith, c.loop-i-test.false, c.products-i-end.ensures.count)) c.loop-i.invariant.so_far).1
 
 pub returns-clause-elements : goal.returns-clause-elements

@@ -73,7 +73,8 @@ loop-i-preserved c =
 ended : (c : goal.After-drop-walk-inside-2) → (c.loop-i.corrections.items ≡ honest_corrections (given_from c.args.program.now (wires_made c.args.program.now c.args.public.now c.args.inputs.now)) c.args.dealt.now)
     × (length c.loop-i.corrections.items ≡ c.args.program.now.givens)
 ended c =
-    all_made c.args.program.now (wires_made c.args.program.now c.args.public.now c.args.inputs.now) c.loop-i.corrections.items c.args.dealt.now c.loop-i.i
+    all_made c.args.program.now (given_from c.args.program.now (wires_made c.args.program.now c.args.public.now c.args.inputs.now)) c.loop-i.corrections.items c.args.dealt.now c.loop-i.i
+    (length-given_from c.args.program.now (wires_made c.args.program.now c.args.public.now c.args.inputs.now))
     c.products.ensures.held.counted c.requires.dealt
     (omega (arith, c.loop-i-test.false, c.products-i-end.ensures.count)) c.loop-i.invariant.so_far
 
