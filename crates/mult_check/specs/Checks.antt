@@ -1,5 +1,7 @@
 -- What the two checks answer.
-use Rattle.std.specs.Prelude.{◌≡◌, ℕ, List}
+use Rattle.std.specs.Prelude.{◌≡◌, ℕ, List, map, slice_index}
+use Rattle.std.specs.List.{range_with_len}
+use Rattle.zk_model.specs.Program.{section_count}
 use Rattle.zk_model.specs.Check.{ProductCheck, OpeningCheck, FailsFirstAt, OpensFalselyAt, left_of_section, right_of_section, left_of_opening, right_of_opening}
 use Rattle.wire_auth.specs.Sides.{VerifierSide}
 use Rattle.mult_check.specs.declared.sections.Differs.{Differs}
@@ -27,6 +29,18 @@ sent_check side sent =
 abbrev pub opening_check : VerifierSide → ℕ → List ℕ → List ℕ → OpeningCheck
 opening_check side key macs claims =
     record { program = side.program; key = key; keys = side.keys; macs = macs; claims = claims }
+
+-- the left sides of the first n sections, in which the sums have no part
+abbrev pub left_sides : ProductCheck → ℕ → List ℕ
+left_sides check n = map (λ s. left_of_section check s) (range_with_len 0 n)
+
+-- those of all sections
+abbrev pub all_left_sides : ProductCheck → List ℕ
+all_left_sides check = left_sides check (section_count check.program check.section_length)
+
+-- the keys of the opened wires, which are the left sides of their equations
+abbrev pub opened_keys : VerifierSide → List ℕ
+opened_keys side = map (slice_index side.keys.wires) side.program.opened
 
 -- the first section whose equation fails, and its two sides
 pub record SectionDiffersFirst (check : ProductCheck) (differs : Differs) : Type 0 where

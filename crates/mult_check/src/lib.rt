@@ -4,7 +4,8 @@
 //! `parts` has the sums of parts of a list of products, on either side, and of one section; `sections` has `prover_sums` and
 //! `check`, over all sections of wires that are held; `streams` has `stream_sums` and `stream_check`, the same along walks that hold
 //! a block of products at most, by so many workers, and `sums_along` and `check_along`, by one thread that holds none; `walked` has what
-//! these have in common, and `sent` what a check along a walk is over; `openings` has `check_openings`.
+//! these have in common, and `sent` what a check along a walk is over; `openings` has `check_openings`; `left_sides` both checks in two
+//! parts, of which the first needs no sums and no openings.
 //!
 //!     let sums = prover_sums(alloc, &wires, g, challenge, masks)?;  // at the prover
 //!     check(&wires, g, challenge, mask_keys, key, &sums)?;          // at the verifier: or the first section that differs
@@ -15,6 +16,7 @@
 #![tactic(auto)]
 
 mod fault;
+mod left_sides;
 mod openings;
 mod parts;
 mod sections;
@@ -23,6 +25,7 @@ mod streams;
 mod walked;
 
 pub use fault::StreamFault;
+pub use left_sides::{check_left_sides, check_opened_keys, left_sides_along, opened_keys_along};
 pub use openings::{OpeningDiffers, check_openings, openings_along};
 pub use parts::{ProverPart, VerifierPart, section_left, section_sums};
 pub use sections::{Differs, check, prover_sums};

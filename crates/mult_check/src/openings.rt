@@ -18,7 +18,13 @@ pub struct OpeningDiffers {
 }
 
 /// Tests the equation of one opened wire, whose key is the left side.
-fn check_opening(output: u32, left: Fe, mac: Fe, claim: Fe, key: Fe) -> Result<(), OpeningDiffers>
+pub(crate) fn check_opening(
+    output: u32,
+    left: Fe,
+    mac: Fe,
+    claim: Fe,
+    key: Fe,
+) -> Result<(), OpeningDiffers>
     ensures holds { IfOk result (λ _. left ≡ mac +ₚ claim *ₚ key) }
     ensures differs { IfErr result (λ d. (left ≢ mac +ₚ claim *ₚ key) × (d ≡ record {
       output = output;

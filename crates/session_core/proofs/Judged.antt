@@ -1,14 +1,16 @@
 -- What the checks say of what the verifier took is what they say of the whole session.
-use Rattle.std.proofs.Common.{◌≡◌, ℕ, List, drop, take, refl, sym, ◌∙◌, subst}
+use Rattle.std.proofs.Common.{◌≡◌, ℕ, List, [], drop, take, length, ap, refl, sym, ◌∙◌, subst}
+use Rattle.std.proofs.lemmas.List.{length-map}
+use Rattle.std.proofs.lemmas.List.FromFn.{length-map-range_with_len}
 use Rattle.zk_model.specs.Program.{Program, section_count}
 use Rattle.zk_model.specs.Mac.{corrected_keys}
 use Rattle.zk_model.specs.Correlations.{span_keys}
 use Rattle.zk_model.specs.Transcript.{Hello, Round}
-use Rattle.zk_model.specs.Check.{ProductCheck, OpeningCheck, WireKeys, AreKeysFor}
+use Rattle.zk_model.specs.Check.{ProductCheck, OpeningCheck, WireKeys, AreKeysFor, left_of_section}
 use Rattle.zk_model.specs.View.{IsVerdictOf, span_of, session_keys, session_products, session_openings}
 use Rattle.zk_model.specs.ServedVerifier.{challenge_coin}
 use Rattle.wire_auth.specs.Sides.{VerifierSide}
-use Rattle.std.specs.Prelude.{Result, Ok, Err, IfOk}
+use Rattle.std.specs.Prelude.{Result, Ok, Err, IfOk, slice_index}
 use Rattle.std.specs.declared.alloc.AllocError.{AllocError}
 use Rattle.mult_check.specs.Checks.{product_check, opening_check, SectionDiffersFirst}
 use Rattle.mult_check.specs.declared.sections.Differs.{Differs}
@@ -16,7 +18,8 @@ use Rattle.mult_check.specs.declared.fault.StreamFault.{StreamFault}
 use Rattle.mult_check.specs.declared.fault.StreamFault.TheVariants as stream
 use Rattle.session_core.specs.Ends.{masks_in}
 use Rattle.session_core.specs.Jobs.{VerifierJob, granted_from}
-use Rattle.session_core.specs.Judgements.{HasSides, IsJudgement, IsRejectedFor, Judges, session_transcript, verdict_in}
+use Rattle.session_core.specs.Judgements.{AreLeftSides, HasSides, IsJudgement, IsRejectedFor, Judges, session_transcript, verdict_in}
+use Rattle.session_core.specs.declared.left_sides.LeftSides.{LeftSides}
 use Rattle.session_core.specs.declared.judgement.Judgement.{Judgement}
 use Rattle.session_core.specs.declared.judgement.Judgement.TheVariants.{Accepted, RejectedSum, RejectedOpening}
 use Rattle.session_core.proofs.Masks.{verdict_of_few, left_of_few}
@@ -97,3 +100,24 @@ judged_taken job greeting start rounds corrections sums openings side section ch
         (masks_in job.task.statement.program job.section_length (span_keys job.task.file (span_of (granted_from job start))))
         job.task.statement.claims job.task.statement.program
     same i = checks (sections i) (coin i) (one i) (masked i) (claimed i) (program i)
+
+-- ---- left sides
+
+-- as many as sections
+pub sections_counted : (job : VerifierJob) (start : ℕ) (corrections : List ℕ) (left_sides : LeftSides) → AreLeftSides job start corrections left_sides
+    → length left_sides.sections.items ≡ section_count job.task.statement.program job.section_length
+sections_counted job start corrections left_sides are =
+    ap length are.sections
+    ∙ length-map-range_with_len (λ s. left_of_section check s) 0 (section_count are.side.program job.section_length)
+    ∙ ap (λ (p : Program). section_count p job.section_length) are.keys.program
+  where
+    check : ProductCheck
+    check = product_check are.side job.section_length (challenge_coin job.task.file start)
+        (masks_in job.task.statement.program job.section_length (span_keys job.task.file (span_of (granted_from job start)))) job.task.file.key []
+
+-- as many as opened wires
+pub opened_counted : (job : VerifierJob) (start : ℕ) (corrections : List ℕ) (left_sides : LeftSides) → AreLeftSides job start corrections left_sides
+    → length left_sides.opened.items ≡ length job.task.statement.program.opened
+opened_counted job start corrections left_sides are =
+    ap length are.opened ∙ length-map are.side.program.opened (slice_index are.side.keys.wires)
+    ∙ ap (λ (p : Program). length p.opened) are.keys.program

@@ -1,15 +1,21 @@
 -- What a verifier finds of a whole session.
-use Rattle.std.specs.Prelude.{◌≡◌, ℕ, List}
+use Rattle.std.specs.Prelude.{◌≡◌, ℕ, List, []}
 use Rattle.zk_model.specs.Transcript.{Hello, Round, Transcript}
-use Rattle.zk_model.specs.Check.{WireKeys, ProductCheck, OpeningCheck, left_of_section, right_of_section, left_of_opening, right_of_opening}
-use Rattle.zk_model.specs.View.{AreSessionKeys, IsVerdictOf, session_products, session_openings, verdict_code, verdict_number}
+use Rattle.zk_model.specs.Correlations.{span_keys}
+use Rattle.zk_model.specs.Mac.{corrected_keys}
+use Rattle.zk_model.specs.Check.{AreKeysFor, WireKeys, ProductCheck, OpeningCheck, left_of_section, right_of_section, left_of_opening, right_of_opening}
+use Rattle.zk_model.specs.View.{span_of, AreSessionKeys, IsVerdictOf, session_products, session_openings, verdict_code, verdict_number}
 use Rattle.zk_model.specs.ServedVerifier.{VerifierTask, challenge_coin}
 use Rattle.zk_model.specs.declared.Verdict.{Verdict}
 use Rattle.zk_model.specs.declared.Verdict.TheVariants as verdict
+use Rattle.wire_auth.specs.Sides.{VerifierSide}
+use Rattle.mult_check.specs.Checks.{all_left_sides, opened_keys, product_check}
 use Rattle.mult_check.specs.declared.sections.Differs.{Differs}
 use Rattle.mult_check.specs.declared.fault.StreamFault.{StreamFault}
 use Rattle.mult_check.specs.declared.fault.StreamFault.TheVariants as stream
+use Rattle.session_core.specs.Ends.{masks_in}
 use Rattle.session_core.specs.Jobs.{VerifierJob, granted_from}
+use Rattle.session_core.specs.declared.left_sides.LeftSides.{LeftSides}
 use Rattle.session_core.specs.declared.judgement.Judgement.{Judgement}
 use Rattle.session_core.specs.declared.judgement.Judgement.TheVariants.{Accepted, RejectedSum, RejectedOpening}
 
@@ -71,3 +77,18 @@ abbrev pub Finds : VerifierJob → ℕ → List ℕ → List (ℕ × ℕ) → Li
 Finds job start corrections sums openings judgement =
     (greeting : Hello) (rounds : List Round)
     → IsJudgement job.task (session_transcript job greeting start rounds corrections sums openings (verdict_in judgement)) judgement
+
+-- what a verifier has of all wires, from these keys of a session's correlations and these corrections
+pub record IsVerifierSide (job : VerifierJob) (keys corrections : List ℕ) (side : VerifierSide) : Type 0 where
+  pub program : side.program ≡ job.task.statement.program
+  pub given : side.keys.given ≡ corrected_keys job.task.file.key keys corrections
+  pub carried : AreKeysFor job.task.file.key job.task.statement.program job.task.statement.public side.keys
+
+-- What it has of a session with a grant from this unit on in which these corrections came, before sums and openings come: over keys of
+-- all wires, the left sides of both checks.
+pub record AreLeftSides (job : VerifierJob) (start : ℕ) (corrections : List ℕ) (left_sides : LeftSides) : Type 0 where
+  pub side : VerifierSide
+  pub keys : IsVerifierSide job (span_keys job.task.file (span_of (granted_from job start))) corrections side
+  pub sections : left_sides.sections.items ≡ all_left_sides (product_check side job.section_length (challenge_coin job.task.file start)
+      (masks_in job.task.statement.program job.section_length (span_keys job.task.file (span_of (granted_from job start)))) job.task.file.key [])
+  pub opened : left_sides.opened.items ≡ opened_keys side

@@ -6,18 +6,20 @@ ghost use Rattle.zk_model.specs.Transcript as transcript;
 ghost use Rattle.zk_model.specs.ServedVerifier.{challenge_coin};
 ghost use Rattle.zk_model.specs.declared.Kind.TheVariants.{Direct};
 ghost use Rattle.mult_check.specs.Checks.{sent_check, opening_check};
+ghost use Rattle.session_core.specs.Ends.{masks_in};
 ghost use Rattle.session_core.specs.Jobs.{IsVerifierJob, IsTooLarge, units_of_job, granted_from, verifier_of};
 ghost use Rattle.session_core.specs.Fixing.{HoldsKeys};
-ghost use Rattle.session_core.specs.Judgements.{IsRejectedFor, Judges, Finds};
+ghost use Rattle.session_core.specs.Judgements.{AreLeftSides, IsRejectedFor, IsVerifierSide, Judges, Finds};
 ghost use Rattle.zk_model.specs.declared.limits.TheConstants.{MAX_DEALT_UNITS, MAX_SECTION_LENGTH, MAX_UNITS};
 
 use crate::judgement::Judgement;
+use crate::left_sides::{LeftSides, judgement_from};
 use crate::prover_job::{masks_of, units_of};
 use crate::statement::Statement;
 use crate::workers::Workers;
 use dealer_files::VerifierFile;
 use mersenne_field::Fe;
-use mult_check::{SentSums, StreamFault, openings_along};
+use mult_check::{SentSums, StreamFault, left_sides_along, opened_keys_along, openings_along};
 use proof_frames::Grant;
 use std::alloc::{AllocError, Global};
 use std::marker::Model;
@@ -262,24 +264,107 @@ impl<'a> VerifierJob<'a> {
         ensures { IfOk result (λ judgement.
             Finds self.now start corrections.now sums.now openings.now judgement) }
     {
-        let program = self.statement.program();
-        let plan = self.statement.plan();
-        let section = u64::from(self.section);
-        let key = self.file.key();
         let _total = self.file.total();
-        let sections = program.sections(section) as usize;
-        let masks = masks_of(keys, program.givens(), sections);
-        let public = self.statement.public();
-        let claims = self.statement.claims();
-        let mut walk = VerifierWalk::new(alloc, program, plan, public, keys, key, corrections)?;
+        let masks = self.mask_keys(keys);
+        let mut walk = self.walk(alloc, keys, corrections)?;
         let sent = SentSums {
-            section_length: section,
+            section_length: u64::from(self.section),
             challenge: self.challenge(start),
             mask_keys: masks,
-            key,
+            key: self.file.key(),
             sums,
         };
+        let claims = self.statement.claims();
         let judgement = judgement_of(workers, alloc, &mut walk, &sent, openings, claims)?;
         Ok(judgement)
+    }
+
+    /// What it has of the session whose first unit this is and whose keys these are, in which these corrections came, before the
+    /// prover's sums and openings come.
+    ///
+    /// # Errors
+    ///
+    /// Only where memory runs out.
+    pub fn left_sides(
+        &self,
+        alloc: Global,
+        start: u64,
+        keys: &[Fe],
+        corrections: &[Fe],
+    ) -> Result<LeftSides, AllocError>
+        requires within { start + units_of_job self.now ≤ self.now.task.file.params.total }
+        requires keys { HoldsKeys self.now start keys.now }
+        requires corrections { length corrections.now ≡ self.now.task.statement.program.givens }
+        ensures { IfOk result (AreLeftSides self.now start corrections.now) }
+    {
+        let section = u64::from(self.section);
+        let masks = self.mask_keys(keys);
+        let key = self.file.key();
+        let challenge = self.challenge(start);
+        let mut walk = self.walk(alloc, keys, corrections)?;
+        let sections = left_sides_along(alloc, &mut walk, section, challenge, masks, key)?;
+        let opened = opened_keys_along(alloc, &walk)?;
+        Ok(LeftSides { sections, opened })
+    }
+
+    /// What it finds of a session of which it has these left sides, as `judge` does. The corrections are those that came in it.
+    pub fn judge_left_sides(
+        &self,
+        start: u64,
+        corrections: &[Fe],
+        left_sides: &LeftSides,
+        sums: &[(Fe, Fe)],
+        openings: &[Fe],
+    ) -> Judgement
+        requires within { start + units_of_job self.now ≤ self.now.task.file.params.total }
+        requires left_sides { AreLeftSides self.now start corrections.now left_sides.now }
+        requires sums { length sums.now
+            ≡ section_count self.now.task.statement.program self.now.section_length }
+        requires openings { length openings.now ≡ length self.now.task.statement.program.opened }
+        ensures { Finds self.now start corrections.now sums.now openings.now result }
+    {
+        let program = self.statement.program();
+        let _opened = program.opened();
+        let key = self.file.key();
+        let claims = self.statement.claims();
+        judgement_from(left_sides, key, sums, openings, claims)
+    }
+
+    /// The keys of the sections' masks, of those of a session's correlations.
+    fn mask_keys<'k>(&self, keys: &'k [Fe]) -> &'k [Fe]
+        requires { length keys.now ≡ units_of_job self.now * correlations_per_unit self.now.task.file.params }
+        ensures masks { result.now
+            ≡ masks_in self.now.task.statement.program self.now.section_length keys.now }
+        ensures count { length result.now
+            ≡ section_count self.now.task.statement.program self.now.section_length }
+    {
+        let program = self.statement.program();
+        let section = u64::from(self.section);
+        let _total = self.file.total();
+        let sections = program.sections(section) as usize;
+        masks_of(keys, program.givens(), sections)
+    }
+
+    /// A walk along its program with these keys and corrections, which has given no product yet.
+    fn walk<'w>(
+        &'w self,
+        alloc: Global,
+        keys: &'w [Fe],
+        corrections: &'w [Fe],
+    ) -> Result<VerifierWalk<'w>, AllocError>
+        requires keys { length keys.now
+            ≡ units_of_job self.now * correlations_per_unit self.now.task.file.params }
+        requires corrections { length corrections.now ≡ self.now.task.statement.program.givens }
+        ensures side { IfOk result (λ walk. IsVerifierSide self.now keys.now corrections.now walk.side) }
+        ensures fresh { IfOk result (λ walk. walk.met ≡ 0) }
+    {
+        let program = self.statement.program();
+        let plan = self.statement.plan();
+        let public = self.statement.public();
+        let key = self.file.key();
+        let _total = self.file.total();
+        let _givens = program.givens();
+        let walk = VerifierWalk::new(alloc, program, plan, public, keys, key, corrections)?;
+        Ok(walk)
     }
 }

@@ -1,13 +1,15 @@
 -- What both ends have said once the prover has answered the challenge.
-use Rattle.std.specs.Prelude.{◌≡◌, List, [], length, drop}
+use Rattle.std.specs.Prelude.{◌≡◌, ℕ, List, [], length, drop}
 use Rattle.zk_model.specs.Mac.{Pair, macs_of}
 use Rattle.zk_model.specs.Program.{section_count}
 use Rattle.zk_model.specs.Check.{WirePairs, all_sums, opened_pairs}
 use Rattle.zk_model.specs.Transcript.{wanted_hello}
 use Rattle.zk_model.specs.ServedVerifier.{challenge_coin}
-use Rattle.wire_auth.specs.Held.{items_in}
+use Rattle.zk_model.specs.Transcript.{Grant}
+use Rattle.session_core.specs.declared.prover_job.Opened.{Opened}
 use Rattle.session_core.specs.Ends.{IsFixed}
-use Rattle.session_core.specs.Fixing.{HoldsKeys}
+use Rattle.session_core.specs.Fixing.{pairs_fixed}
+use Rattle.session_core.specs.Judgements.{AreLeftSides}
 use Rattle.session_core.specs.Jobs.{ProverJob, VerifierJob, granted_from}
 use Rattle.session_rehearsal.specs.Exchanges.{AreShort, round_log}
 use Rattle.session_rehearsal.specs.Holding.{HoldsRounds}
@@ -29,7 +31,14 @@ pub record IsAnswered (prover : ProverJob) (job : VerifierJob) (a : OpenedSessio
 -- there is as much of each as the verifier's job wants
 pub record IsCounted (job : VerifierJob) (a : OpenedSession) : Type 0 where
   pub rounds : AreShort a.asked.items a.replied.items
-  pub keys : HoldsKeys job 0 (items_in a.keys)
+  pub left_sides : AreLeftSides job 0 a.corrections.items a.left_sides
   pub corrections : length a.corrections.items ≡ job.task.statement.program.givens
   pub sums : length a.opened.sums.items ≡ section_count job.task.statement.program job.section_length
   pub openings : length a.opened.openings.items ≡ length job.task.statement.program.opened
+
+-- what a prover answers a challenge by
+pub record IsOpened (prover : ProverJob) (grant : Grant) (pairs : List Pair) (challenge : ℕ) (o : Opened) : Type 0 where
+  pub sums : o.sums.items ≡ all_sums prover.statement.program grant.section_length challenge (pairs_fixed prover pairs) (drop prover.statement.program.givens pairs)
+  pub openings : o.openings.items ≡ macs_of (opened_pairs prover.statement.program (pairs_fixed prover pairs))
+  pub sum_count : length o.sums.items ≡ section_count prover.statement.program grant.section_length
+  pub opening_count : length o.openings.items ≡ length prover.statement.program.opened

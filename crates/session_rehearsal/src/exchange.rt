@@ -1,5 +1,5 @@
 // What passes between both ends of a session: each turn is answered by the other end.
-ghost use Rattle.std.specs.Prelude.{◌≡◌, ◌+◌, ◌*◌, ◌≤◌, ℕ, [], List, length, IfOk};
+ghost use Rattle.std.specs.Prelude.{◌≡◌, ◌+◌, ◌*◌, ◌≤◌, ℕ, [], List, length, IfOk, Ok};
 ghost use Rattle.zk_model.specs.Correlations.{span_keys};
 ghost use Rattle.zk_model.specs.Files.{AreDealt, correlations_per_unit};
 ghost use Rattle.zk_model.specs.Transcript.{Round, IsGrant};
@@ -11,9 +11,10 @@ ghost use Rattle.wire_auth.specs.Values.{given_made};
 ghost use Rattle.session_core.specs.Ends.{whole_grant};
 ghost use Rattle.session_core.specs.Jobs as jobs;
 ghost use Rattle.session_core.specs.Jobs.{units_of_job, granted_from, prover_from};
-ghost use Rattle.session_core.specs.Fixing.{HoldsKeys};
+ghost use Rattle.session_core.specs.Fixing.{HoldsKeys, IsFixedUnder};
+ghost use Rattle.session_core.specs.Judgements.{AreLeftSides};
 ghost use Rattle.session_rehearsal.specs.Exchanges.{IsExchangeNoted, IsShortExchange, AreShort, round_log};
-ghost use Rattle.session_rehearsal.specs.Answers.{IsAnswered, IsCounted};
+ghost use Rattle.session_rehearsal.specs.Answers.{IsAnswered, IsCounted, IsOpened};
 ghost use Rattle.session_rehearsal.specs.Holding.{AreBitsOf, AreRoundsHeld, HoldsRounds, IsSessionOf, ends_of, ends_with};
 
 use dealer_files::{ProverFile, VerifierFile};
@@ -21,12 +22,12 @@ use mersenne_field::{Fe, Pair};
 use proof_frames::{Frame, Grant, Hello};
 use round_fan::{SESSION_WORKERS, fan_prover, fan_verifier};
 use session_core::{
-    Correlations, Fan, Opened, ProverJob, Statement, VerifierJob, ask_frames, ask_lists,
-    reply_frames, units_of,
+    Correlations, LeftSides, OneThread, Opened, ProverJob, Statement, VerifierJob, ask_frames,
+    ask_lists, reply_frames, units_of,
 };
 use session_laws::{asks_are_in_range, replies_are_in_range};
 use std::alloc::{AllocError, Global};
-use std::thread::Threads;
+use std::thread::{self, Threads};
 use vole_extend::columns_of;
 use zk_model::{Kind, Verdict};
 
@@ -53,14 +54,14 @@ struct Correlated<'p, 'v> {
     keys: Correlations<'v, Fe>,
 }
 
-/// What both ends have said once the prover has answered the challenge, and the keys of the verifier.
+/// What both ends have said once the prover has answered the challenge, and what the verifier has by then.
 #[derive(Drop)]
-pub(crate) struct OpenedSession<'v> {
+pub(crate) struct OpenedSession {
     pub(crate) hello: Hello,
     pub(crate) grant: Grant,
     pub(crate) asked: Vec<Frame>,
     pub(crate) replied: Vec<Frame>,
-    pub(crate) keys: Correlations<'v, Fe>,
+    pub(crate) left_sides: LeftSides,
     pub(crate) corrections: Vec<Fe>,
     pub(crate) challenge: Fe,
     pub(crate) opened: Opened,
@@ -92,20 +93,20 @@ pub(crate) fn run_session<R: Threads + Sync>(
     let verifier = VerifierJob::new(statement, verifier_file, section);
     let answered = answer(rt, alloc, statement, inputs, bits, &prover_file, &verifier)?;
     drop(prover_file);
-    let exchange = judge(rt, alloc, &verifier, answered)?;
+    let exchange = judge(&verifier, answered);
     Ok(exchange)
 }
 
 /// All turns up to the prover's answer to the challenge, which are those that both cores take.
-fn answer<'v, R: Threads + Sync>(
+fn answer<R: Threads + Sync>(
     rt: &R,
     alloc: Global,
     statement: &Statement<'_>,
     inputs: &[Fe],
     bits: &[bool],
     prover_file: &ProverFile,
-    verifier: &VerifierJob<'v>,
-) -> Result<OpenedSession<'v>, AllocError>
+    verifier: &VerifierJob<'_>,
+) -> Result<OpenedSession, AllocError>
     requires inputs { length inputs.now ≡ statement.now.program.inputs }
     requires bits { AreBitsOf (given_made statement.now.program statement.now.public inputs.now)
         statement.now.program bits.now }
@@ -206,7 +207,8 @@ fn extend<'p, 'v, R: Threads + Sync>(
     })
 }
 
-/// The turns after the rounds, up to the prover's answer to the challenge.
+/// The turns after the rounds, up to the prover's answer to the challenge. While the prover walks for its answer, the verifier walks for the
+/// left sides of its checks, which does not wait for the answer.
 fn open<'p, 'v, R: Threads + Sync>(
     rt: &R,
     alloc: Global,
@@ -215,7 +217,7 @@ fn open<'p, 'v, R: Threads + Sync>(
     grant: Grant,
     bits: &[bool],
     established: Correlated<'p, 'v>,
-) -> Result<OpenedSession<'v>, AllocError>
+) -> Result<OpenedSession, AllocError>
     requires stated { prover.now.statement ≡ verifier.now.task.statement }
     requires dealt { AreDealt prover.now.file verifier.now.task.file }
     requires bits { AreBitsOf prover.now.given prover.now.statement.program bits.now }
@@ -226,6 +228,7 @@ fn open<'p, 'v, R: Threads + Sync>(
     requires pairs { length (items_in established.pairs)
         ≡ grant.count * correlations_per_unit prover.now.file.params }
     requires keys { HoldsKeys verifier.now 0 (items_in established.keys) }
+    requires within { units_of_job verifier.now ≤ verifier.now.task.file.params.total }
     ensures answered { IfOk result (IsAnswered prover.now verifier.now) }
     ensures counted { IfOk result (IsCounted verifier.now) }
 {
@@ -240,34 +243,93 @@ fn open<'p, 'v, R: Threads + Sync>(
     let seen = pairs.as_slice();
     let corrections = prover.commit_bits(alloc, grant, seen, bits)?;
     let challenge = verifier.challenge(0);
-    let workers = Fan::new(rt, SESSION_WORKERS);
-    let opened = prover.open(&workers, alloc, grant, seen, challenge)?;
+    let held = keys.as_slice();
+    let walked = both_walks(
+        rt,
+        alloc,
+        prover,
+        verifier,
+        grant,
+        seen,
+        held,
+        &corrections,
+        challenge,
+    )?;
+    let Walked { left_sides, opened } = walked;
     Ok(OpenedSession {
         hello,
         grant,
         asked,
         replied,
-        keys,
+        left_sides,
         corrections,
         challenge,
         opened,
     })
 }
 
-/// The verifier's last turn.
-fn judge<'v, R: Threads + Sync>(
+/// What both walks give.
+#[derive(Drop)]
+struct Walked {
+    left_sides: LeftSides,
+    opened: Opened,
+}
+
+/// Both, where both are there.
+fn both(
+    left_sides: Result<LeftSides, AllocError>,
+    opened: Result<Opened, AllocError>,
+) -> Result<Walked, AllocError>
+    ensures left_sides { IfOk result (λ w. left_sides ≡ Ok w.left_sides) }
+    ensures opened { IfOk result (λ w. opened ≡ Ok w.opened) }
+{
+    let left_sides = left_sides?;
+    let opened = opened?;
+    Ok(Walked { left_sides, opened })
+}
+
+/// What the verifier has before the prover answers the challenge, and that answer, by two walks at the same time.
+fn both_walks<'p, 'v, R: Threads + Sync>(
     rt: &R,
     alloc: Global,
+    prover: &ProverJob<'p>,
     verifier: &VerifierJob<'v>,
-    answered: OpenedSession<'v>,
-) -> Result<SessionValues, AllocError>
+    grant: Grant,
+    pairs: &[Pair],
+    keys: &[Fe],
+    corrections: &[Fe],
+    challenge: Fe,
+) -> Result<Walked, AllocError>
+    requires held { IsFixedUnder prover.now grant pairs.now }
+    requires within { units_of_job verifier.now ≤ verifier.now.task.file.params.total }
+    requires keys { HoldsKeys verifier.now 0 keys.now }
+    requires corrections { length corrections.now ≡ verifier.now.task.statement.program.givens }
+    ensures left_sides { IfOk result (λ w. AreLeftSides verifier.now 0 corrections.now w.left_sides) }
+    ensures opened { IfOk result (λ w. IsOpened prover.now grant pairs.now challenge w.opened) }
+{
+    let prepared = || -> Result<LeftSides, AllocError>
+        requires { (units_of_job verifier.now ≤ verifier.now.task.file.params.total)
+            × HoldsKeys verifier.now 0 keys.now
+            × (length corrections.now ≡ verifier.now.task.statement.program.givens) }
+        ensures { IfOk result (AreLeftSides verifier.entry.now 0 corrections.entry.now) }
+    { verifier.left_sides(alloc, 0, keys, corrections) };
+    let answered = || -> Result<Opened, AllocError>
+        requires { IsFixedUnder prover.now grant pairs.now }
+        ensures { IfOk result (IsOpened prover.entry.now grant pairs.entry.now challenge) }
+    { prover.open(&OneThread, alloc, grant, pairs, challenge) };
+    let (left_sides, opened) = thread::join(rt, prepared, answered);
+    both(left_sides, opened)
+}
+
+/// The verifier's last turn.
+fn judge(verifier: &VerifierJob<'_>, answered: OpenedSession) -> SessionValues
     requires within { units_of_job verifier.now ≤ verifier.now.task.file.params.total }
     requires counted { IsCounted verifier.now answered }
-    ensures session { IfOk result (λ e. (prover : jobs.ProverJob) (log : List (Side × ℕ))
+    ensures session { (prover : jobs.ProverJob) (log : List (Side × ℕ))
         → prover.statement ≡ verifier.now.task.statement → AreDealt prover.file verifier.now.task.file
-        → IsAnswered prover verifier.now answered.entry → IsExchangeNoted e log
-        → IsSessionOf (ends_of prover verifier.now) (granted_from verifier.now 0) e.verdict log) }
-    ensures short { IfOk result IsShortExchange }
+        → IsAnswered prover verifier.now answered → IsExchangeNoted result log
+        → IsSessionOf (ends_of prover verifier.now) (granted_from verifier.now 0) result.verdict log }
+    ensures short { IsShortExchange result }
 {
     let program = verifier.statement().program();
     let _products = program.products();
@@ -277,22 +339,19 @@ fn judge<'v, R: Threads + Sync>(
         grant,
         asked,
         replied,
-        keys,
+        left_sides,
         corrections,
         challenge,
         opened,
     } = answered;
-    let workers = Fan::new(rt, SESSION_WORKERS);
-    let judgement = verifier.judge(
-        &workers,
-        alloc,
+    let judgement = verifier.judge_left_sides(
         0,
-        keys.as_slice(),
         &corrections,
+        &left_sides,
         &opened.sums,
         &opened.openings,
-    )?;
-    Ok(SessionValues {
+    );
+    SessionValues {
         hello,
         grant,
         asked,
@@ -301,5 +360,5 @@ fn judge<'v, R: Threads + Sync>(
         challenge,
         opened,
         verdict: judgement.verdict(),
-    })
+    }
 }

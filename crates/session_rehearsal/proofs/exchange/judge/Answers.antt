@@ -22,7 +22,7 @@ use Rattle.session_rehearsal.proofs.Held.{session_is}
 use Rattle.session_rehearsal.proofs.exchange.judge.Goals as goal
 
 pub returns-clause-short : goal.returns-clause-short
-returns-clause-short g c =
+returns-clause-short c =
     let is : IsVerifierJob c.args.verifier.now = c.file.ensures.job in
     let program = c.program-program.ensures.program ∙ ap (λ (s : Statement). s.program) c.statement.ensures.statement in
     let products = ap (λ (p : Program). length p.products) program in
@@ -38,12 +38,12 @@ returns-clause-short g c =
     }
 
 pub returns-clause-session : goal.returns-clause-session
-returns-clause-session g c prover log stated dealt answered noted =
+returns-clause-session c prover log stated dealt answered noted =
     let job : VerifierJob = c.args.verifier.now in
     let wanted : Hello = wanted_hello job.task.file.id job.task.statement in
     let a = c.args.answered in
     let rounds = answered.held.rounds in
-    let judgement = c.in_ok-judgement.judgement in
+    let judgement = c.judge_left_sides-judgement.result in
     let d = a.corrections.items in
     let both = a.opened.sums.items in
     let macs = a.opened.openings.items in
@@ -65,7 +65,7 @@ returns-clause-session g c prover log stated dealt answered noted =
     } in
     let found : IsJudgement job.task (session_transcript job wanted 0 rounds d both macs (verdict_in judgement)) judgement =
     subst (λ (q : List ℕ × List (ℕ × ℕ) × List ℕ). IsJudgement job.task (session_transcript job wanted 0 rounds q.0 q.1 q.2 (verdict_in judgement)) judgement)
-    (λ i. (c.deref.ensures.value i, c.deref-2.ensures.value i, c.deref-3.ensures.value i)) (c.in_ok-judgement.ensures wanted rounds) in
+    (λ i. (c.deref.ensures.value i, c.deref-2.ensures.value i, c.deref-3.ensures.value i)) (c.judge_left_sides-judgement.ensures wanted rounds) in
     let hello = answered.hello ∙ (λ i. wanted_hello (dealt.id i) (stated i)) in
     let spells : log ≡ spelling (session_transcript job wanted 0 rounds d both macs (verdict_in judgement)) =
     noted.log_is

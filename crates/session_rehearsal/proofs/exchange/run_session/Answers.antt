@@ -26,8 +26,8 @@ answer-requires-clause-within g c κs inside =
     c.requires.dealt.params c.requires.granted in
     within _ _ (omega (arith, units, ap (λ (p : Params). p.total) c.requires.dealt.params)) c.new-verifier.ensures
 
-pub judge-requires-clause-within : goal.judge-requires-clause-within
-judge-requires-clause-within g c κs inside =
+pub judge-exchange-requires-clause-within : goal.judge-exchange-requires-clause-within
+judge-exchange-requires-clause-within g c =
     let units = units_of_pair c.args.prover_file.params c.args.verifier_file.now.params c.args.statement.now.program c.args.prover_file.params.total c.args.section
     c.requires.dealt.params c.requires.granted in
     within _ _ (omega (arith, units, ap (λ (p : Params). p.total) c.requires.dealt.params)) c.new-verifier.ensures
@@ -40,9 +40,9 @@ returns-clause-session g c log noted =
     let made = c.new-verifier.ensures in
     subst (λ n. IsSessionOf
     (ends_with c.args.statement.now c.args.inputs.now c.args.prover_file c.args.verifier_file.now)
-    (whole_grant n c.args.section) c.in_ok-exchange.exchange.verdict log) units
-    (subst (λ (j : VerifierJob). IsSessionOf (ends_of prover j) (granted_from j 0) c.in_ok-exchange.exchange.verdict log) made
-    (c.in_ok-exchange.ensures.session prover log
+    (whole_grant n c.args.section) c.judge-exchange.result.verdict log) units
+    (subst (λ (j : VerifierJob). IsSessionOf (ends_of prover j) (granted_from j 0) c.judge-exchange.result.verdict log) made
+    (c.judge-exchange.ensures.session prover log
     (sym (ap (λ (j : VerifierJob). j.task.statement) made))
     (subst (λ (j : VerifierJob). AreDealt c.args.prover_file j.task.file) (sym made) c.requires.dealt)
     c.in_ok-answered.ensures.answered noted))
