@@ -1,11 +1,11 @@
 //! A session: both ends, turn by turn (Weng, Yang, Katz and Wang, Wolverine, IEEE S&P 2021; Yang, Sarkar, Weng and Wang,
 //! QuickSilver, ACM CCS 2021).
 //!
-//! `statement` has what a session is about, `circuit_claim` the claim that some inputs make a circuit give outputs. `prover_job` and
-//! `verifier_job` have what either end is to do, and its turns as calls, `verifier_jobs` what a verifier is to do of several statements; `prover_core` and `verifier_core` take frames one by one
-//! and take these turns. `extending` has the asks, replies, pairs and keys of all units of a grant, `round_frames` their frames,
-//! `workers` what several threads can share, `left_sides` what a verifier has before the sums come, `judgement` what the checks found,
-//! `fault` why a core stops.
+//! `statement` has what a session is about, `circuit_claim` the claim that some inputs make a circuit give outputs, `hellos` whether a
+//! hello is for it. `prover_job` and `verifier_job` have what either end is to do, and its turns as calls, `verifier_jobs` what a
+//! verifier is to do of several statements; `prover_core` and `verifier_core` take frames one by one and take these turns. `extending`
+//! has the asks, replies, pairs and keys of all units of a grant, `round_frames` their frames, `workers` what several threads can share,
+//! `left_sides` what a verifier has before the sums come, `judgement` what the checks found, `fault` why a core stops.
 //!
 //!     let claim = CircuitClaim::new(alloc, &circuit, digest, public, outputs)?;
 //!     let statement = claim.statement();
@@ -17,6 +17,7 @@
 mod circuit_claim;
 mod extending;
 mod fault;
+mod hellos;
 mod judgement;
 mod left_sides;
 mod prover_core;
@@ -31,13 +32,14 @@ mod workers;
 pub use circuit_claim::{CircuitClaim, input_bits_prove};
 pub use extending::{Replied, ask_lists, ask_units, asks_in, replies_in, reply_units};
 pub use fault::{Digests, HelloDiffers, ProverFault, VerifierFault};
+pub use hellos::difference;
 pub use judgement::Judgement;
 pub use left_sides::LeftSides;
 pub use prover_core::ProverCore;
 pub use prover_job::{Opened, ProverJob, units_of};
 pub use round_frames::{ask_frames, reply_frames};
 pub use statement::{Statement, bits_digest, elements_of};
-pub use verifier_core::{VerifierCore, difference};
+pub use verifier_core::VerifierCore;
 pub use verifier_job::{TooLarge, VerifierJob, units_for};
 pub use verifier_jobs::VerifierJobs;
 pub use wire_auth::Correlations;

@@ -1,31 +1,29 @@
 // The verifier's end of a session, frame by frame.
-ghost use Rattle.std.specs.Prelude.{◌≡◌, ◌+◌, ◌≤◌, ℕ, [], ◌∷◌, length, map, true, false, All, IfOk, IfErr, OnErr, IfSome, IfNone, IsSomeAnd};
+ghost use Rattle.std.specs.Prelude.{◌≡◌, ◌+◌, ◌≤◌, ℕ, [], ◌∷◌, length, map, true, false, All, IfOk, IfErr, OnErr, IfSome, IsSomeAnd};
 ghost use Rattle.zk_model.specs.Frames.{Allows, AreAsks};
 ghost use Rattle.zk_model.specs.View.{verdict_code, verdict_number};
 ghost use Rattle.zk_model.specs.Frames as model;
-ghost use Rattle.zk_model.specs.Transcript.{IsHelloFor, digest_said};
 ghost use Rattle.proof_frames.specs.Frames.{frame_value};
 ghost use Rattle.wire_auth.specs.Held.{items_in};
 ghost use Rattle.proof_frames.specs.Readings.{IsShortPlace};
-ghost use Rattle.session_core.specs.Jobs.{IsHelloOf, units_of_job, granted_from};
+ghost use Rattle.session_core.specs.Jobs.{units_of_job, granted_from};
 ghost use Rattle.session_core.specs.Judgements.{verdict_in};
 ghost use Rattle.zk_model.specs.declared.Expect.TheVariants as expect;
 ghost use Rattle.zk_model.specs.declared.Kind.TheVariants.{Extended};
 ghost use Rattle.zk_model.specs.Program.{section_count};
 ghost use Rattle.round_fan.specs.Fans.{lists_of};
 ghost use Rattle.session_core.specs.Fixing.{HoldsKeys};
-ghost use Rattle.session_core.specs.Cores.{AnswersAsks, VerifierAnswers, VerifierRefuses, IsVerifierStage, awaits_hello, owes_grant, behind_grant, awaits_asks, awaits_corrections, awaits_sums, awaits_openings, has_refused, verifier_expects, judgement_at, digests_said, DiffersFirst};
+ghost use Rattle.session_core.specs.Cores.{AnswersAsks, VerifierAnswers, VerifierRefuses, IsVerifierStage, awaits_hello, owes_grant, behind_grant, awaits_asks, awaits_corrections, awaits_sums, awaits_openings, has_refused, verifier_expects, judgement_at};
 
-use crate::fault::{Digests, HelloDiffers, VerifierFault};
+use crate::fault::VerifierFault;
+use crate::hellos::difference;
 use crate::judgement::Judgement;
 use crate::prover_job::units_of;
 use crate::round_frames::reply_frames;
-use crate::statement::{Statement, version_of};
 use crate::verifier_job::VerifierJob;
 use crate::workers::{Fan, OneThread, Workers};
 use mersenne_field::Fe;
-use proof_frames::{Frame, Hello};
-use sha2::{Digest, Sha256};
+use proof_frames::Frame;
 use std::alloc::{AllocError, Global};
 use std::marker::Model;
 use std::mem;
@@ -85,61 +83,6 @@ impl<'a> Model for VerifierCore<'a> {
 
     ghost invariant = { λ c. cores.IsVerifierStage c.job.now (verifier_stage c.stage)
         × HoldsKeysAt c.job.now c.stage };
-}
-
-/// The digest of public bits that a hello says: in the short form that of the empty text.
-fn digest_said(hello: &Hello) -> [u8; 32]
-    ensures { result ≡ digest_said hello.now }
-{
-    match hello.public {
-        Some(digest) => digest,
-        None => Sha256::digest(&[]),
-    }
-}
-
-/// The digests that a hello says.
-fn digests_said(hello: &Hello) -> Digests
-    ensures { result ≡ digests_said hello.now }
-{
-    Digests {
-        circuit: hello.circuit,
-        outputs: hello.outputs,
-        public: digest_said(hello),
-    }
-}
-
-/// What differs first in a hello for the files of this id and a statement, and nothing exactly where a verifier takes it.
-pub fn difference(id: [u8; 32], statement: &Statement<'_>, hello: &Hello) -> Option<HelloDiffers>
-    ensures differs { IfSome result (DiffersFirst id statement.now hello.now) }
-    ensures fits { IfNone result (IsHelloFor id statement.now hello.now) }
-{
-    if hello.id != id {
-        return Some(HelloDiffers::Id {
-            want: id,
-            got: hello.id,
-        });
-    }
-    let version = version_of(hello.public);
-    if hello.version != version {
-        return Some(HelloDiffers::Version {
-            want: version,
-            got: hello.version,
-        });
-    }
-    let want = statement.digests();
-    let got = digests_said(hello);
-    if want != got {
-        return Some(HelloDiffers::Statement { want, got });
-    }
-    None
-}
-
-/// Whether a hello is for the file and the statement of a job.
-pub(crate) fn is_hello_of(job: &VerifierJob<'_>, hello: &Hello) -> bool
-    ensures yes { result ≡ true → IsHelloOf job.now hello.now }
-    ensures no { result ≡ false → ¬ IsHelloOf job.now hello.now }
-{
-    difference(job.file().id(), job.statement(), hello).is_none()
 }
 
 /// The frame of a verdict.

@@ -3,7 +3,7 @@ ghost use Rattle.std.specs.Prelude.{◌≡◌, ◌≤◌, ◌<◌, length, IfSom
 ghost use Rattle.session_core.specs.Jobs.{AreVerifierJobs, IsForNone, IsFirstFor, all_jobs, job_at, noted_job};
 ghost use Rattle.zk_model.specs.declared.limits.TheConstants.{MAX_STATEMENTS};
 
-use crate::verifier_core::is_hello_of;
+use crate::hellos::is_hello_of;
 use crate::verifier_job::VerifierJob;
 use proof_frames::Hello;
 use std::marker::Model;
