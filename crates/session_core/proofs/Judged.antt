@@ -34,12 +34,17 @@ sides_of_few check openings masks (RejectedSum section left right) few is sides 
     (sides.0 ∙ left_of_few check masks section few is.below, sides.1)
 sides_of_few check openings masks (RejectedOpening output left right) few is sides = sides
 
--- sums that are refused for a section whose sides differ first
+-- sums that are refused for the first section whose sides differ
+pub section_refused : (check : ProductCheck) (openings : OpeningCheck) (differs : Differs) (judgement : Judgement) → SectionDiffersFirst check differs
+    → judgement ≡ RejectedSum differs.section differs.left differs.right → Judges check openings judgement
+section_refused check openings differs judgement first is = subst (Judges check openings) (sym is) (first.first, (first.left, first.right))
+
+-- the same as a check along a walk says it
 pub rejected : (check : ProductCheck) (openings : OpeningCheck) (fault : StreamFault) (result : Result Judgement AllocError)
     → ((differs : Differs) → fault ≡ stream.Differs differs → SectionDiffersFirst check differs) → IfOk result (IsRejectedFor fault)
     → IfOk result (Judges check openings)
 rejected check openings fault (Ok judgement) first (differs, is, same) =
-    subst (Judges check openings) (sym same) ((first differs is).first, ((first differs is).left, (first differs is).right))
+    section_refused check openings differs judgement (first differs is) same
 rejected check openings fault (Err error) first none = tt
 
 -- the check of products over the dealt keys of a grant's units, and as many masks as there are sections

@@ -36,18 +36,10 @@ pub(crate) fn judgement_from(
         → Judges check (opening_check side key openings.now claims.now) result }
 {
     if let Err(differs) = check_left_sides(&left_sides.sections, key, sums) {
-        return Judgement::RejectedSum {
-            section: differs.section,
-            left: differs.left,
-            right: differs.right,
-        };
+        return Judgement::of_section(differs);
     }
     match check_opened_keys(&left_sides.opened, key, openings, claims) {
-        Err(differs) => Judgement::RejectedOpening {
-            output: differs.output,
-            left: differs.left,
-            right: differs.right,
-        },
+        Err(differs) => Judgement::of_opening(differs),
         Ok(()) => Judgement::Accepted,
     }
 }

@@ -94,11 +94,7 @@ fn rejected_sum(fault: StreamFault) -> Result<Judgement, AllocError>
     ensures { IfOk result (IsRejectedFor fault) }
 {
     match fault {
-        StreamFault::Differs(differs) => Ok(Judgement::RejectedSum {
-            section: differs.section,
-            left: differs.left,
-            right: differs.right,
-        }),
+        StreamFault::Differs(differs) => Ok(Judgement::of_section(differs)),
         StreamFault::NoMemory => Err(AllocError),
     }
 }
@@ -127,11 +123,7 @@ fn judgement_of<H: Workers>(
         return rejected_sum(fault);
     }
     match openings_along(walk, sent.key, openings, claims) {
-        Err(differs) => Ok(Judgement::RejectedOpening {
-            output: differs.output,
-            left: differs.left,
-            right: differs.right,
-        }),
+        Err(differs) => Ok(Judgement::of_opening(differs)),
         Ok(()) => Ok(Judgement::Accepted),
     }
 }
