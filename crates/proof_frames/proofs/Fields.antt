@@ -1,8 +1,6 @@
 -- The bytes that fields allow: field by field, and byte by byte.
 use Rattle.std.proofs.Common.{◌≡◌, ℕ, zero, suc, ◌+◌, ◌-◌, ◌*◌, ◌/◌, ◌%◌, ◌<◌, ◌≤◌, ◌⊎◌, inl, inr, List, [], ◌∷◌, ◌++◌, map, flat_map, length, take, drop, get_or, replicate, refl, sym, ◌∙◌, ap, arith, length-append, append_assoc, append-nil, subst, take-append-drop, length-drop}
-use Rattle.std.specs.Prelude.{All}
 use Rattle.std.specs.Int.{w64, from_le_bytes}
-use Rattle.std.specs.List.{AllByRecursion}
 use Rattle.std.proofs.Math.Nat.{mul-le-mul_right}
 use Rattle.std.proofs.Math.Seq.{take-append-add}
 use Rattle.std.proofs.lemmas.Nat.{mod-mul-add}
@@ -241,34 +239,6 @@ fits_exact (byte ∷ fixed) bytes fits =
     fits.2 ∙ (λ i. (one_item fits.0 counted ∙ ap (λ b. b ∷ []) same) i ++ fits_exact fixed fits.1 fits.4 i)
 
 -- ---- fields so many times
-
--- items that each fit do so one after another
-pub items_fit : {A : Type 0} (f : A → List ℕ) (fields : List Field) (items : List A) → AllByRecursion (λ item. FitsFields fields (f item)) items
-    → FitsFields (repeat (length items) fields) (flat_map f items)
-items_fit f fields [] each = refl
-items_fit f fields (item ∷ items) each =
-    fits_append fields (repeat (length items) fields) (f item) (flat_map f items) each.0 (items_fit f fields items each.1)
-
--- the other way round
-pub record Items {A : Type 0} (f : A → List ℕ) (P : A → Type 0) (count : ℕ) (bytes : List ℕ) : Type 0 where
-  pub items : List A
-  pub counted : length items ≡ count
-  pub each : All P items
-  pub spelled : bytes ≡ flat_map f items
-
-pub fit_items : {A : Type 0} (f : A → List ℕ) (P : A → Type 0) (fields : List Field) → ((bytes : List ℕ) → FitsFields fields bytes → (item : A) × P item × (bytes ≡ f item))
-    → (count : ℕ) (bytes : List ℕ) → FitsFields (repeat count fields) bytes → Items f P count bytes
-fit_items f P fields back zero bytes fits = record { items = []; counted = refl; each = All-nil P; spelled = fits }
-fit_items f P fields back (suc count) bytes fits =
-    let apart = fits_split fields (repeat count fields) bytes fits in
-    let one = back apart.0 apart.3 in
-    let others = fit_items f P fields back count apart.1 apart.4 in
-    record {
-      items = one.0 ∷ others.items;
-      counted = ap suc others.counted;
-      each = All-cons P one.0 others.items one.1 others.each;
-      spelled = apart.2 ∙ (λ i. one.2 i ++ others.spelled i);
-    }
 
 -- how many bytes they are
 repeat_length : (fields : List Field) (count : ℕ) → length (slots (repeat count fields)) ≡ count * length (slots fields)

@@ -1,10 +1,10 @@
 -- What is held begins a frame: a byte more as it comes, a byte of an element, whole elements, and a whole frame.
-use Rattle.std.proofs.Common.{◌≡◌, ℕ, zero, suc, ◌+◌, ◌-◌, ◌*◌, ◌%◌, ◌<◌, ◌≤◌, ◌⊎◌, inl, inr, Bool, true, false, List, [], ◌∷◌, ◌++◌, map, flat_map, length, take, drop, get_or, refl, sym, ◌∙◌, ap, arith, length-append, append_assoc, append-nil, subst}
+use Rattle.std.proofs.Common.{◌≡◌, ℕ, zero, suc, ◌+◌, ◌-◌, ◌*◌, ◌%◌, ◌<◌, ◌≤◌, ◌⊎◌, inl, inr, Bool, true, false, List, [], ◌∷◌, ◌++◌, map, flat_map, length, drop, get_or, refl, sym, ◌∙◌, ap, arith, length-append, append_assoc, append-nil, subst}
 use Rattle.std.specs.Prelude.{All}
 use Rattle.std.specs.Int.{w64, from_le_bytes}
 use Rattle.std.specs.List.{AllByRecursion}
 use Rattle.std.proofs.lemmas.Bool.{cases_lt}
-use Rattle.std.proofs.lemmas.List.{take_at, nil_from_length, get_or-append-add, flat_map_more}
+use Rattle.std.proofs.lemmas.List.{drop_at, nil_from_length, get_or-append-add, flat_map_more}
 use Rattle.std.proofs.lemmas.List.Elements.{All-push, recursion_from_All}
 use Rattle.zk_model.specs.Field.{IsElement}
 use Rattle.zk_model.specs.Bytes.{element_bytes}
@@ -289,7 +289,8 @@ elements_step place start elements now list headed begun ranged few = (
 -- a whole frame of elements
 pub record HoldsAll (place : Expect) (start elements part : List ℕ) (count : ℕ) : Type 0 where
   pub are : AreElements count elements
-  pub bytes : spelled start elements part ≡ header (row_of place (told place (spelled start elements part))) ++ flat_map element_bytes elements
+  pub word : IsWordAt place (spelled start elements part)
+  pub behind : flat_map element_bytes elements ≡ drop 5 (spelled start elements part)
 
 pub finished_elements : (place : Expect) (start elements part : List ℕ) (count : ℕ) → longest place ≡ payload.Elements count → BeginsFrame place (spelled start elements part)
     → AreKept (is_list (longest place)) start elements part → length (spelled start elements part) ≡ frame_length place (spelled start elements part)
@@ -318,11 +319,10 @@ finished_elements place start elements part count is begun kept whole = by_lengt
         omega (arith, headed, length-spelled start elements part, whole, frame_of place start elements part list headed (spelled start elements part) some, ap elements_in is) in
         let none : part ≡ [] = nil_from_length part (omega (arith, total)) in
         let bytes : List ℕ = flat_map element_bytes elements in
-        let head : start ≡ header (row_of place (told place (spelled start elements part))) =
-        sym (take_at start (bytes ++ part) 5 headed) ∙ ap (take 5) (sym (append_assoc start bytes part) ∙ word.spelled) in
         record {
           are = record { counted = omega (arith, total); ranged = apart.ranged };
-          bytes = ap (λ l. (start ++ bytes) ++ l) none ∙ append-nil (start ++ bytes) ∙ ap (λ l. l ++ bytes) head;
+          word = word;
+          behind = sym (ap (drop 5) (ap (λ l. (start ++ bytes) ++ l) none ∙ append-nil (start ++ bytes)) ∙ drop_at start bytes 5 headed);
         }
 
 -- a whole frame whose bytes are as they came

@@ -3,6 +3,7 @@ pub mod Octets
 pub mod Sums
 pub mod Fields
 pub mod EveryRow
+pub mod Spells
 pub mod TreeFrames
 pub mod Words
 pub mod Lengths

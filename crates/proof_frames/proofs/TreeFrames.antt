@@ -1,40 +1,27 @@
 -- Trees as asks and as replies.
-use Rattle.std.proofs.Common.{◌≡◌, ℕ, zero, suc, ◌+◌, ◌*◌, ◌<◌, ◌≤◌, List, [], ◌∷◌, ◌++◌, map, flat_map, length, take, drop, get_or, refl, sym, ◌∙◌, ap, arith, length-append, append_assoc, append-nil, length-drop, subst, take-append-drop}
-use Rattle.std.specs.Prelude.{All, Bool, true, false, nat_eq}
+use Rattle.std.proofs.Common.{◌≡◌, ℕ, suc, ◌+◌, ◌*◌, ◌<◌, ◌≤◌, List, [], ◌∷◌, ◌++◌, flat_map, length, take, drop, sym, ◌∙◌, ap, arith, length-append, append-nil, length-drop, subst}
+use Rattle.std.specs.Prelude.{All}
 use Rattle.std.specs.Int.{w64, from_le_bytes}
-use Rattle.std.specs.List.{AllByRecursion}
 use Rattle.std.proofs.lemmas.Nat.{from_le_bytes-to_le_bytes_8}
-use Rattle.std.proofs.lemmas.List.{length-map, length-take-le, nil_from_length, flat_map_more, take_at, drop_at}
+use Rattle.std.proofs.lemmas.List.{length-take-le, flat_map_more, take_at, drop_at}
 use Rattle.std.proofs.Math.Seq.{drop-drop, take-add}
-use Rattle.std.proofs.lemmas.List.Elements.{All-nil, All-cons, All-push, All-append, All-take, All-drop, recursion_from_All}
-use Rattle.zk_model.specs.Bits.{from_bit}
+use Rattle.std.proofs.lemmas.List.Elements.{All-push, All-take, All-drop}
 use Rattle.zk_model.specs.Bytes.{LeftRight, AreBytes, AreBothBytes, element_bytes}
 use Rattle.zk_model.specs.Field.{prime, IsElement, from_word}
-use Rattle.zk_model.specs.Transcript.{TreeAsk, TreeReply, IsTreeAsk, IsTreeReply}
 use Rattle.proof_frames.specs.declared.row.Field.{Field}
 use Rattle.proof_frames.specs.declared.row.Field.TheVariants as field
-use Rattle.proof_frames.specs.Frames.{ask_bytes, message_bytes, reply_bytes}
+use Rattle.proof_frames.specs.Frames.{message_bytes}
 use Rattle.proof_frames.specs.Rows.{FitsFields, FitsField, repeat, levels, tree_fields}
 use Rattle.proof_frames.proofs.Fields.{fits_split}
 use Rattle.proof_frames.proofs.Octets.{IsByte}
 
 -- ---- two fields
 
-pub two_fit : (first second : Field) (front rest : List ℕ) → FitsField first front → FitsField second rest → FitsFields (first ∷ second ∷ []) (front ++ rest)
-two_fit first second front rest fits fit = (front, rest, refl, fits, (rest, [], sym (append-nil rest), fit, refl))
-
 pub fit_two : (first second : Field) (bytes : List ℕ) → FitsFields (first ∷ second ∷ []) bytes
     → (front : List ℕ) × (rest : List ℕ) × (bytes ≡ front ++ rest) × FitsField first front × FitsField second rest
 fit_two first second bytes fits =
     let behind = fits.4 in
     (fits.0, behind.0, fits.2 ∙ ap (λ l. fits.0 ++ l) (behind.2 ∙ ap (λ l. behind.0 ++ l) behind.4 ∙ append-nil behind.0), fits.3, behind.3)
-
--- the bytes of levels and an element fit
-tree_fits : (height size most : ℕ) (plain : List ℕ) (element : ℕ) → length plain ≡ size * height → All (λ byte. byte ≤ most) plain → IsElement element
-    → FitsFields (tree_fields height size most) (plain ++ element_bytes element)
-tree_fits height size most plain element sized small is =
-    two_fit (levels height size most) field.Element plain (element_bytes element)
-    (record { counted = sized; ranged = λ k default less. (omega arith, small k default less) }) (record { element = element; is = is; spelled = refl })
 
 -- the bytes of levels, and the element after them
 pub record IsTree (height size most : ℕ) (bytes : List ℕ) : Type 0 where
@@ -56,105 +43,6 @@ fits_tree height size most bytes fits =
       is = two.4.is;
       spelled = two.2 ∙ ap (λ l. two.0 ++ l) two.4.spelled;
     }
-
--- ---- asks
-
--- bits are 0 or 1
-bits_small : (flips : List Bool) → All (λ byte. byte ≤ 1) (map from_bit flips)
-bits_small [] = All-nil (λ byte. byte ≤ 1)
-bits_small (false ∷ flips) = All-cons (λ byte. byte ≤ 1) 0 (map from_bit flips) (omega arith) (bits_small flips)
-bits_small (true ∷ flips) = All-cons (λ byte. byte ≤ 1) 1 (map from_bit flips) (omega arith) (bits_small flips)
-
-pub ask_fits : (height : ℕ) (ask : TreeAsk) → IsTreeAsk height ask → FitsFields (tree_fields height 1 1) (ask_bytes ask)
-ask_fits height ask is =
-    let sized : length (map from_bit ask.flips) ≡ height = length-map ask.flips from_bit ∙ is.flips in
-    tree_fits height 1 1 (map from_bit ask.flips) ask.base_correction (omega (arith, sized)) (bits_small ask.flips) is.base_correction
-
--- whether a byte is 1
-abbrev is_one : ℕ → Bool
-is_one byte = nat_eq byte 1
-
--- a byte of 0 or 1 is that of its bit
-pub bit_back : (byte : ℕ) → byte ≤ 1 → from_bit (is_one byte) ≡ byte
-bit_back zero small = refl
-bit_back (suc zero) small = refl
-bit_back (suc (suc byte)) small = absurd (omega arith)
-
-bits_back : (plain : List ℕ) → AllByRecursion (λ byte. byte ≤ 1) plain → map from_bit (map is_one plain) ≡ plain
-bits_back [] small = refl
-bits_back (byte ∷ plain) small = λ i. bit_back byte small.0 i ∷ bits_back plain small.1 i
-
-pub fits_ask : (height : ℕ) (bytes : List ℕ) → FitsFields (tree_fields height 1 1) bytes → (ask : TreeAsk) × IsTreeAsk height ask × (bytes ≡ ask_bytes ask)
-fits_ask height bytes fits =
-    let tree = fits_tree height 1 1 bytes fits in
-    let sized = tree.sized in (
-      record { flips = map is_one tree.plain; base_correction = tree.element },
-      record { flips = length-map tree.plain is_one ∙ (let e : length tree.plain ≡ height = omega arith in e); base_correction = tree.is },
-      tree.spelled ∙ ap (λ l. l ++ element_bytes tree.element) (sym (bits_back tree.plain (recursion_from_All (λ byte. byte ≤ 1) tree.plain tree.small))),
-    )
-
--- ---- replies
-
--- both messages of a level are 32 bytes
-messages_bytes : (messages : List LeftRight) → AllByRecursion (AreBothBytes 16) messages
-    → (length (flat_map message_bytes messages) ≡ 32 * length messages) × All (λ byte. byte ≤ 255) (flat_map message_bytes messages)
-messages_bytes [] each = (refl, All-nil (λ byte. byte ≤ 255))
-messages_bytes (both ∷ messages) each =
-    let others = messages_bytes messages each.1 in
-    let left : AreBytes 16 both.left = each.0.0 in
-    let right : AreBytes 16 both.right = each.0.1 in (
-      omega (arith, left.0, right.0, others.0, length-append (message_bytes both) (flat_map message_bytes messages), length-append both.left both.right),
-      All-append (λ byte. byte ≤ 255) (message_bytes both) (flat_map message_bytes messages)
-          (All-append (λ byte. byte ≤ 255) both.left both.right (small both.left left.1) (small both.right right.1)) others.1,
-    )
-  where
-    small : (bytes : List ℕ) → All IsByte bytes → All (λ byte. byte ≤ 255) bytes
-    small bytes all = λ k default less. let below : get_or bytes k default < 256 = all k default less in omega arith
-
-pub reply_fits : (height : ℕ) (reply : TreeReply) → IsTreeReply height reply → FitsFields (tree_fields height 32 255) (reply_bytes reply)
-reply_fits height reply is =
-    let bytes = messages_bytes reply.messages (recursion_from_All (AreBothBytes 16) reply.messages is.messages) in
-    tree_fits height 32 255 (flat_map message_bytes reply.messages) reply.leaf_offset (bytes.0 ∙ ap (λ n. 32 * n) is.count) bytes.1 is.leaf_offset
-
--- what the bytes of levels say
-record Levels (height : ℕ) (bytes : List ℕ) : Type 0 where
-  pub messages : List LeftRight
-  pub counted : length messages ≡ height
-  pub each : All (AreBothBytes 16) messages
-  pub spelled : flat_map message_bytes messages ≡ bytes
-
-levels_said : (height : ℕ) (bytes : List ℕ) → length bytes ≡ 32 * height → All IsByte bytes → Levels height bytes
-levels_said zero bytes sized all = record {
-  messages = [];
-  counted = refl;
-  each = All-nil (AreBothBytes 16);
-  spelled = sym (nil_from_length bytes (omega (arith, sized)));
-}
-levels_said (suc height) bytes sized all =
-    let behind : List ℕ = drop 16 bytes in
-    let rest : List ℕ = drop 16 behind in
-    let others = levels_said height rest (omega (arith, sized, length-drop 16 bytes, length-drop 16 behind)) (All-drop IsByte 16 behind (All-drop IsByte 16 bytes all)) in
-    let both : LeftRight = record { left = take 16 bytes; right = take 16 behind } in
-    let left : AreBytes 16 both.left = (length-take-le 16 bytes (omega (arith, sized)), All-take IsByte 16 bytes all) in
-    let right : AreBytes 16 both.right =
-    (length-take-le 16 behind (omega (arith, sized, length-drop 16 bytes)), All-take IsByte 16 behind (All-drop IsByte 16 bytes all)) in
-    record {
-      messages = both ∷ others.messages;
-      counted = ap suc others.counted;
-      each = All-cons (AreBothBytes 16) both others.messages (left, right) others.each;
-      spelled = ap (λ l. (take 16 bytes ++ take 16 behind) ++ l) others.spelled ∙ append_assoc (take 16 bytes) (take 16 behind) rest
-          ∙ ap (λ l. take 16 bytes ++ l) (take-append-drop 16 behind) ∙ take-append-drop 16 bytes;
-    }
-
-pub fits_reply : (height : ℕ) (bytes : List ℕ) → FitsFields (tree_fields height 32 255) bytes → (reply : TreeReply) × IsTreeReply height reply × (bytes ≡ reply_bytes reply)
-fits_reply height bytes fits =
-    let tree = fits_tree height 32 255 bytes fits in
-    let all : All IsByte tree.plain = λ k default less. let most : get_or tree.plain k default ≤ 255 = tree.small k default less in omega arith in
-    let messages = levels_said height tree.plain tree.sized all in (
-      record { messages = messages.messages; leaf_offset = tree.element },
-      record { count = messages.counted; messages = messages.each; leaf_offset = tree.is },
-      tree.spelled ∙ ap (λ l. l ++ element_bytes tree.element) (sym messages.spelled),
-    )
 
 -- ---- trees that are read one by one
 

@@ -1,5 +1,5 @@
 -- Frames of the program, and what they say.
-use Rattle.std.specs.Prelude.{ℕ, ◌+◌, ◌≤◌, if◌then◌else◌, nat_eq, Some, None, List, [], ◌∷◌, ◌++◌, map, flat_map, length, take, drop, get_or, All}
+use Rattle.std.specs.Prelude.{ℕ, ◌+◌, ◌≤◌, Option, if◌then◌else◌, nat_eq, Some, None, List, [], ◌∷◌, ◌++◌, map, flat_map, length, take, drop, get_or, All}
 use Rattle.std.specs.Int.{w32, w64, from_le_bytes}
 use Rattle.zk_model.specs.Bits.{from_bit}
 use Rattle.zk_model.specs.Bytes.{LeftRight, element_bytes}
@@ -73,28 +73,32 @@ sums_payload sums = flat_map (λ both. element_bytes both.0 ++ element_bytes bot
 abbrev pub flattened : List (ℕ × ℕ) → List ℕ
 flattened sums = flat_map (λ both. both.0 ∷ both.1 ∷ []) sums
 
--- the greeting that bytes say
+-- a digest, or none where there are no bytes
+abbrev pub digest_in : List ℕ → Option (List ℕ)
+digest_in bytes = if nat_eq (length bytes) 32 then Some bytes else None
+
+-- the greeting that a payload says
 abbrev pub hello_in : List ℕ → Hello
 hello_in bytes = record {
-  id = take 32 (drop 5 bytes);
-  circuit = take 32 (drop 37 bytes);
-  outputs = take 32 (drop 69 bytes);
-  version = get_or bytes 101 0;
-  public = if nat_eq (get_or bytes 1 0) 129 then Some (take 32 (drop 102 bytes)) else None;
+  id = take 32 bytes;
+  circuit = take 32 (drop 32 bytes);
+  outputs = take 32 (drop 32 (drop 32 bytes));
+  version = get_or (take 1 (drop 32 (drop 32 (drop 32 bytes)))) 0 0;
+  public = digest_in (drop 1 (drop 32 (drop 32 (drop 32 bytes))));
 }
 
--- the grant that bytes say
+-- the grant that a payload says
 abbrev pub grant_in : List ℕ → Grant
 grant_in bytes = record {
-  start = from_le_bytes w64 (take 8 (drop 5 bytes));
-  count = from_le_bytes w32 (take 4 (drop 13 bytes));
-  section_length = from_le_bytes w32 (take 4 (drop 17 bytes));
+  start = from_le_bytes w64 (take 8 bytes);
+  count = from_le_bytes w32 (take 4 (drop 8 bytes));
+  section_length = from_le_bytes w32 (drop 4 (drop 8 bytes));
 }
 
--- the grant or the refusal that bytes say
-abbrev pub grant_or_refusal_in : List ℕ → model.Frame
-grant_or_refusal_in bytes = if nat_eq (get_or bytes 0 0) 10 then model.refuse (get_or bytes 5 0) else model.grant (grant_in bytes)
+-- the grant or the refusal that a payload says after a kind
+abbrev pub grant_or_refusal_in : ℕ → List ℕ → model.Frame
+grant_or_refusal_in first bytes = if nat_eq first 10 then model.refuse (get_or bytes 0 0) else model.grant (grant_in bytes)
 
--- the verdict that bytes say
+-- the verdict that a payload says
 abbrev pub verdict_in : List ℕ → model.Frame
-verdict_in bytes = model.verdict (get_or bytes 5 0) (from_le_bytes w32 (take 4 (drop 6 bytes)))
+verdict_in bytes = model.verdict (get_or bytes 0 0) (from_le_bytes w32 (drop 1 bytes))

@@ -1,5 +1,5 @@
 // The bytes of the frame that is under way.
-ghost use Rattle.std.specs.Prelude.{◌≡◌, ◌+◌, ◌*◌, ◌<◌, ◌≤◌, ◌++◌, [], ◌∷◌, length, flat_map, All, IfSome, OnOk, true, false, vec_len, vec_capacity};
+ghost use Rattle.std.specs.Prelude.{◌≡◌, ◌+◌, ◌*◌, ◌<◌, ◌≤◌, ◌++◌, [], ◌∷◌, length, drop, flat_map, All, IfSome, OnOk, true, false, vec_len, vec_capacity};
 ghost use Rattle.zk_model.specs.Bytes.{element_bytes};
 ghost use Rattle.zk_model.specs.Field.{IsElement};
 ghost use Rattle.zk_model.specs.Frames as model;
@@ -249,6 +249,14 @@ impl Held {
         self.part.reserve(8)?;
         self.elements.reserve(longest.elements())?;
         Ok(())
+    }
+
+    /// The payload, as it came, of a frame whose header is whole.
+    pub(crate) fn payload(&self) -> &[u8]
+        requires { 5 ≤ vec_len self.now.start }
+        ensures { result.now ≡ drop 5 self.now.start.items }
+    {
+        &self.start[5..]
     }
 
     /// Hands out the elements.

@@ -2,10 +2,10 @@
 ghost use Rattle.std.specs.Prelude.{◌≡◌, ℕ, ◌+◌, ◌*◌, ◌≤◌, ◌<◌, length, take, drop, get_or, OnOk, vec_len, vec_capacity, [], ◌++◌};
 ghost use Rattle.std.specs.Int.{w32, w64, to_le_bytes, from_le_bytes};
 ghost use Rattle.zk_model.specs.Frames as model;
-ghost use Rattle.proof_frames.specs.Frames.{frame_value, flattened, hello_in, grant_in, grant_or_refusal_in, verdict_in};
+ghost use Rattle.proof_frames.specs.Frames.{frame_value, flattened, digest_in, hello_in, grant_or_refusal_in, verdict_in};
 ghost use Rattle.proof_frames.specs.Holding.{bytes_of, Holds, pairs_at};
 ghost use Rattle.proof_frames.specs.Rooms.{HasTreeRooms};
-ghost use Rattle.zk_model.specs.declared.limits.TheConstants.{HELLO_LENGTH, LONG_HELLO_LENGTH};
+ghost use Rattle.proof_frames.specs.Rows.{row_of, payload_length};
 
 use crate::frame::{Frame, Grant, Hello};
 use crate::held::Held;
@@ -16,77 +16,73 @@ use std::alloc::Global;
 use std::mem;
 use zk_model::Expect;
 
-/// The bytes from a place on, as many as the array has.
-fn array_at<const N: usize>(bytes: &[u8], at: usize) -> [u8; N]
-    requires { at + N ≤ length bytes.now }
-    ensures { result ≡ take N (drop at bytes.now) }
+/// The bytes as an array of so many.
+fn array<const N: usize>(bytes: &[u8]) -> [u8; N]
+    requires { length bytes.now ≡ N }
+    ensures { result ≡ bytes.now }
 {
     let mut array = [0; N];
-    array.copy_from_slice(&bytes[at..at + N]);
+    array.copy_from_slice(bytes);
     array
 }
 
-/// The digest of public bits that a greeting of 134 bytes ends with.
+/// The digest of public bits, if all of it is there.
 fn digest_of(bytes: &[u8]) -> Option<[u8; 32]>
-    requires short { HELLO_LENGTH ≤ length bytes.now }
-    requires long { get_or bytes.now 1 0 ≡ 129 → LONG_HELLO_LENGTH ≤ length bytes.now }
-    ensures { result ≡ (hello_in bytes.now).public }
+    ensures { result ≡ digest_in bytes.now }
 {
-    if bytes[1] == 129 {
-        Some(array_at(bytes, 102))
+    if bytes.len() == 32 {
+        Some(array(bytes))
     } else {
         None
     }
 }
 
-/// The greeting of 102 or of 134 bytes.
-fn hello_of(bytes: &[u8]) -> Hello
-    requires short { HELLO_LENGTH ≤ length bytes.now }
-    requires long { get_or bytes.now 1 0 ≡ 129 → LONG_HELLO_LENGTH ≤ length bytes.now }
-    ensures { result ≡ hello_in bytes.now }
+/// The greeting that a payload says.
+fn hello_of(payload: &[u8]) -> Hello
+    requires { 97 ≤ length payload.now }
+    ensures { result ≡ hello_in payload.now }
 {
+    let (id, rest) = payload.split_at(32);
+    let (circuit, rest) = rest.split_at(32);
+    let (outputs, rest) = rest.split_at(32);
+    let (version, public) = rest.split_at(1);
     Hello {
-        id: array_at(bytes, 5),
-        circuit: array_at(bytes, 37),
-        outputs: array_at(bytes, 69),
-        version: bytes[101],
-        public: digest_of(bytes),
+        id: array(id),
+        circuit: array(circuit),
+        outputs: array(outputs),
+        version: version[0],
+        public: digest_of(public),
     }
 }
 
-/// The grant of 21 bytes.
-fn grant_of(bytes: &[u8]) -> Grant
-    requires { length bytes.now ≡ 21 }
-    ensures { result ≡ grant_in bytes.now }
+/// The grant that a payload says, or after a refusal's kind the refusal.
+fn grant_or_refusal_of(kind: u8, payload: &[u8]) -> Frame
+    requires { length payload.now ≡ payload_length (row_of Expect.Grant kind).payload }
+    ensures { frame_value result ≡ grant_or_refusal_in kind payload.now }
 {
-    Grant {
-        start: u64::from_le_bytes(array_at(bytes, 5)),
-        count: u32::from_le_bytes(array_at(bytes, 13)),
-        section: u32::from_le_bytes(array_at(bytes, 17)),
+    if kind == 10 {
+        return Frame::Refuse { code: payload[0] };
     }
+    let (start, rest) = payload.split_at(8);
+    let (count, section) = rest.split_at(4);
+    Frame::Grant(Grant {
+        start: u64::from_le_bytes(array(start)),
+        count: u32::from_le_bytes(array(count)),
+        section: u32::from_le_bytes(array(section)),
+    })
 }
 
-/// The grant, or the refusal in its place.
-fn grant_or_refusal_of(bytes: &[u8]) -> Frame
-    requires at_least_one { 1 ≤ length bytes.now }
-    requires whole { length bytes.now ≡ model.frame_length Expect.Grant bytes.now }
-    ensures { frame_value result ≡ grant_or_refusal_in bytes.now }
+/// The verdict that a payload says.
+fn verdict_of(payload: &[u8]) -> Frame
+    requires { length payload.now ≡ 5 }
+    ensures { frame_value result ≡ verdict_in payload.now }
 {
-    if bytes[0] == 10 {
-        Frame::Refuse { code: bytes[5] }
-    } else {
-        Frame::Grant(grant_of(bytes))
-    }
-}
-
-/// The verdict of 10 bytes.
-fn verdict_of(bytes: &[u8]) -> Frame
-    requires { length bytes.now ≡ 10 }
-    ensures { frame_value result ≡ verdict_in bytes.now }
-{
+    let [code, number @ ..] = payload else {
+        return Frame::Verdict { code: 0, number: 0 };
+    };
     Frame::Verdict {
-        code: bytes[5],
-        number: u32::from_le_bytes(array_at(bytes, 6)),
+        code: *code,
+        number: u32::from_le_bytes(array(number)),
     }
 }
 
@@ -123,18 +119,18 @@ pub(crate) fn whole_frame(
     ensures pairs { pairs.new.items ≡ [] }
 {
     match place {
-        Expect::Hello => Frame::Hello(hello_of(&held.start)),
-        Expect::Grant => grant_or_refusal_of(&held.start),
+        Expect::Hello => Frame::Hello(hello_of(held.payload())),
+        Expect::Grant => grant_or_refusal_of(held.start[0], held.payload()),
         Expect::Ask { height, .. } => {
-            Frame::ExtendAsk(asks_of(alloc, &held.start[5..], height, trees))
+            Frame::ExtendAsk(asks_of(alloc, held.payload(), height, trees))
         }
         Expect::Reply { height, .. } => {
-            Frame::ExtendReply(replies_of(alloc, &held.start[5..], height, trees))
+            Frame::ExtendReply(replies_of(alloc, held.payload(), height, trees))
         }
         Expect::Corrections { .. } => Frame::Corrections(held.give_elements(alloc)),
         Expect::Challenge => Frame::Challenge(held.elements[0]),
         Expect::Sums { .. } => Frame::Sums(pairs_of(alloc, &held.elements, pairs)),
         Expect::Openings { .. } => Frame::Openings(held.give_elements(alloc)),
-        Expect::Verdict => verdict_of(&held.start),
+        Expect::Verdict => verdict_of(held.payload()),
     }
 }
