@@ -36,26 +36,26 @@ one_place : (place other : Expect) → Some place ≡ Some other → place ≡ o
 one_place place other is = cc
 
 -- what holds while a frame is under way
-pub under_way : (expected : Option Expect) (place : Expect) (received : ℕ) (bad : Option BadFrame) (taken : ℕ) (held : Held) (pair_room : ℕ)
-    → expected ≡ Some place → IsSound expected received bad taken held pair_room → IsUnderWay place received bad taken held pair_room
-under_way expected place received bad taken held pair_room is sound =
-    subst (λ (e : Option Expect). IsSound e received bad taken held pair_room) is sound
+pub under_way : (expected : Option Expect) (place : Expect) (received : ℕ) (bad : Option BadFrame) (taken : ℕ) (held : Held)
+    → expected ≡ Some place → IsSound expected received bad taken held → IsUnderWay place received bad taken held
+under_way expected place received bad taken held is sound =
+    subst (λ (e : Option Expect). IsSound e received bad taken held) is sound
 
 -- little is taken
-pub taken_most : (place : Expect) (received : ℕ) (bad : Option BadFrame) (taken : ℕ) (held : Held) (pair_room : ℕ)
-    → IsUnderWay place received bad taken held pair_room → taken ≤ 2 ^ 28 + 5
-taken_most place received bad taken held pair_room under =
+pub taken_most : (place : Expect) (received : ℕ) (bad : Option BadFrame) (taken : ℕ) (held : Held)
+    → IsUnderWay place received bad taken held → taken ≤ 2 ^ 28 + 5
+taken_most place received bad taken held under =
     let most = under.most in
     let within = under.holds.begun.within in
     let short = short_frame place (bytes_of held) under.holds.short in
     omega arith
 
 -- what is received can be counted
-pub received_fits : (expected : Option Expect) (received : ℕ) (bad : Option BadFrame) (taken : ℕ) (held : Held) (pair_room : ℕ)
-    → IsSound expected received bad taken held pair_room → received < 2 ^ 64 → received + taken < 2 ^ 64
-received_fits None received bad taken held pair_room idle fits = let none = idle.none_taken in omega arith
-received_fits (Some place) received bad taken held pair_room under fits =
-    let most = taken_most place received bad taken held pair_room under in
+pub received_fits : (expected : Option Expect) (received : ℕ) (bad : Option BadFrame) (taken : ℕ) (held : Held)
+    → IsSound expected received bad taken held → received < 2 ^ 64 → received + taken < 2 ^ 64
+received_fits None received bad taken held idle fits = let none = idle.none_taken in omega arith
+received_fits (Some place) received bad taken held under fits =
+    let most = taken_most place received bad taken held under in
     let room = under.fits in
     omega arith
 
@@ -63,9 +63,9 @@ received_fits (Some place) received bad taken held pair_room under fits =
 abbrev pub reading : ℕ → Option Expect → Option BadFrame → ℕ → Held → Reading
 reading received expected bad taken held = record { received = received; expected = expected; taken = take taken (bytes_of held); bad = bad }
 
-pub sound_reading : (expected : Option Expect) (received : ℕ) (bad : Option BadFrame) (taken : ℕ) (held : Held) (pair_room : ℕ)
-    → IsSound expected received bad taken held pair_room → IsReading (reading received expected bad taken held)
-sound_reading None received bad taken held pair_room idle = record {
+pub sound_reading : (expected : Option Expect) (received : ℕ) (bad : Option BadFrame) (taken : ℕ) (held : Held)
+    → IsSound expected received bad taken held → IsReading (reading received expected bad taken held)
+sound_reading None received bad taken held idle = record {
   goes_on = λ place is. absurd (none_is_none place is);
   within = λ place is. absurd (none_is_none place is);
   idle = λ is. (ap (λ n. take n (bytes_of held)) idle.none_taken, idle.fine);
@@ -73,7 +73,7 @@ sound_reading None received bad taken held pair_room idle = record {
   where
     none_is_none : (place : Expect) → None ≡ Some place → ⊥
     none_is_none place is = cc
-sound_reading (Some place) received bad taken held pair_room under = record {
+sound_reading (Some place) received bad taken held under = record {
   goes_on = λ other is. subst (λ (p : Expect). CanGoOn p (take taken (bytes_of held))) (one_place place other is)
       (begins_can place (take taken (bytes_of held)) (begins_fewer place (bytes_of held) taken under.holds.begun));
   within = λ other is. subst (λ (p : Expect). length (take taken (bytes_of held)) ≤ frame_length p (take taken (bytes_of held))) (one_place place other is)
@@ -98,23 +98,23 @@ none_is None is = refl
 none_is (Some bad) is = cc
 
 -- what is taken is no more than a frame has
-pub taken_within : (expected : Option Expect) (bad : Option BadFrame) (place : Expect) (received taken pair_room : ℕ) (held : Held)
-    → expected ≡ Some place → IsSound expected received bad taken held pair_room → taken ≤ frame_length place (bytes_of held)
-taken_within expected bad place received taken pair_room held is sound =
-    let under = under_way expected place received bad taken held pair_room is sound in
+pub taken_within : (expected : Option Expect) (bad : Option BadFrame) (place : Expect) (received taken : ℕ) (held : Held)
+    → expected ≡ Some place → IsSound expected received bad taken held → taken ≤ frame_length place (bytes_of held)
+taken_within expected bad place received taken held is sound =
+    let under = under_way expected place received bad taken held is sound in
     let most = under.most in
     let within = under.holds.begun.within in
     omega arith
 
 -- ---- a frame is under way, and nothing is bad
 
-module _ (expected : Option Expect) (bad : Option BadFrame) (place : Expect) (received taken pair_room : ℕ) (held : Held) (old : Reading) (is : expected ≡ Some place) (fine : bad ≡ None)
-    (sound : IsSound expected received bad taken held pair_room) (view : reading received expected bad taken held ≡ old) where
+module _ (expected : Option Expect) (bad : Option BadFrame) (place : Expect) (received taken : ℕ) (held : Held) (old : Reading) (is : expected ≡ Some place) (fine : bad ≡ None)
+    (sound : IsSound expected received bad taken held) (view : reading received expected bad taken held ≡ old) where
   abbrev bytes : List ℕ
   bytes = bytes_of held
 
   all : taken ≡ length bytes
-  all = (under_way expected place received bad taken held pair_room is sound).all fine
+  all = (under_way expected place received bad taken held is sound).all fine
 
   -- what is read so far
   abbrev fine_reading : List ℕ → Reading

@@ -111,6 +111,9 @@ both_spell {f} {g} m n least most one two = record {
       record { value = (front.value, rest.value); is = (front.is, rest.is); spelled = sym (take-append-drop m bytes) ∙ (λ i. front.spelled i ++ rest.spelled i) };
 }
 
+pub halves_fit : (bytes : List ℕ) → AreWithin 32 0 255 bytes → AreBytes 16 (take 16 bytes) × AreBytes 16 (drop 16 bytes)
+halves_fit bytes fits = (fit_octets 16 (take 16 bytes) (within_front 16 16 0 255 bytes fits), fit_octets 16 (drop 16 bytes) (within_rest 16 16 0 255 bytes fits))
+
 -- so many of them
 pub levels_spell : {A : Type 0} {f : A → List ℕ} {P : A → Type 0} (size least most : ℕ) → Spells f P (AreWithin size least most) → (count : ℕ)
     → Spells (flat_map f) (λ items. (length items ≡ count) × All P items) (AreWithin (size * count) least most)

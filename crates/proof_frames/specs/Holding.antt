@@ -4,7 +4,6 @@ use Rattle.zk_model.specs.Bytes.{element_bytes}
 use Rattle.zk_model.specs.Field.{IsElement}
 use Rattle.zk_model.specs.Frames.{CanGoOn}
 use Rattle.zk_model.specs.declared.Expect.{Expect}
-use Rattle.zk_model.specs.declared.Expect.TheVariants as expect
 use Rattle.proof_frames.specs.Readings.{IsShortPlace}
 use Rattle.proof_frames.specs.Rows.{BeginsFrame, row_of, payload_length}
 use Rattle.proof_frames.specs.declared.decoder.BadFrame.{BadFrame}
@@ -30,11 +29,6 @@ raw_length (payload.Fields times first second) = 5 + payload_length (payload.Fie
 -- the payload of the longest frame at a place
 abbrev pub longest : Expect → Payload
 longest place = (row_of place 129).payload
-
--- how many pairs a place allows
-abbrev pub pairs_at : Expect → ℕ
-pairs_at (expect.Sums sections) = sections
-pairs_at place = 0
 
 -- the bytes that are held: as they came, as elements, and as part of an element
 abbrev pub spelled : List ℕ → List ℕ → List ℕ → List ℕ
@@ -92,10 +86,9 @@ Runs place old piece None new = Holds place new × (bytes_of new ≡ bytes_of ol
 Runs place old piece (Some n) new = StopsAt place old piece n new
 
 -- a frame is under way; once a byte is bad more may be held than is taken
-pub record IsUnderWay (place : Expect) (received : ℕ) (bad : Option BadFrame) (taken : ℕ) (held : Held) (pair_room : ℕ) : Type 0 where
+pub record IsUnderWay (place : Expect) (received : ℕ) (bad : Option BadFrame) (taken : ℕ) (held : Held) : Type 0 where
   pub fits : received + 2 ^ 29 ≤ 2 ^ 64
   pub holds : Holds place held
-  pub pairs : pairs_at place ≤ pair_room
   pub most : taken ≤ length (bytes_of held)
   pub all : bad ≡ None → taken ≡ length (bytes_of held)
 
@@ -106,6 +99,6 @@ pub record IsIdle (bad : Option BadFrame) (taken : ℕ) (held : Held) : Type 0 w
   pub empty : IsEmpty held
 
 -- what holds of a decoder's fields: those of a frame under way, or of none
-abbrev pub IsSound : Option Expect → ℕ → Option BadFrame → ℕ → Held → ℕ → Type 0
-IsSound None received bad taken held pair_room = IsIdle bad taken held
-IsSound (Some place) received bad taken held pair_room = IsUnderWay place received bad taken held pair_room
+abbrev pub IsSound : Option Expect → ℕ → Option BadFrame → ℕ → Held → Type 0
+IsSound None received bad taken held = IsIdle bad taken held
+IsSound (Some place) received bad taken held = IsUnderWay place received bad taken held

@@ -3,9 +3,8 @@ ghost use Rattle.std.specs.Prelude.{◌≡◌, ◌⊎◌, ◌+◌, ◌^◌, ◌<
 
 use crate::frame::Frame;
 use crate::held::Held;
-use crate::rooms::TreeRooms;
+use crate::rooms::Rooms;
 use crate::whole::whole_frame;
-use mersenne_field::Fe;
 use std::alloc::{AllocError, Global};
 use std::marker::Model;
 use thiserror::Error;
@@ -30,12 +29,11 @@ pub struct Decoder {
     bad: Option<BadFrame>,
     taken: usize,
     held: Held,
-    pairs: Vec<(Fe, Fe)>,
-    trees: TreeRooms,
+    rooms: Rooms,
 }
 
 impl Model for Decoder {
-    ghost use Rattle.std.specs.Prelude.{◌≡◌, [], take, vec_capacity};
+    ghost use Rattle.std.specs.Prelude.{◌≡◌, [], take};
     ghost use Rattle.proof_frames.specs.Readings as readings;
     ghost use Rattle.proof_frames.specs.Holding.{bytes_of, IsSound};
     ghost use Rattle.proof_frames.specs.Rooms.{HasRoomsFor};
@@ -50,7 +48,7 @@ impl Model for Decoder {
     } };
 
     ghost invariant = { λ d. IsSound d.expected d.received d.bad d.taken d.held
-        (vec_capacity d.pairs) × (d.pairs.items ≡ []) × HasRoomsFor d.expected d.trees };
+        × HasRoomsFor d.expected d.rooms };
 }
 
 impl Decoder {
@@ -68,8 +66,7 @@ impl Decoder {
             bad: None,
             taken: 0,
             held: Held::new(alloc),
-            pairs: Vec::new(alloc),
-            trees: TreeRooms::new(alloc),
+            rooms: Rooms::none(alloc),
         }
     }
 
@@ -93,13 +90,8 @@ impl Decoder {
         ensures expects { OnOk result (self.new ≡ record self.old { expected = Some place }) }
         ensures refused { OnErr result (self.new ≡ self.old) }
     {
-        let sections = match place {
-            Expect::Sums { sections } => sections,
-            _ => 0,
-        };
-        self.pairs.reserve(sections)?;
         self.held.reserve(place)?;
-        self.trees = TreeRooms::at(self.alloc, place)?;
+        self.rooms = Rooms::at(self.alloc, place)?;
         self.expected = Some(place);
         Ok(())
     }
@@ -169,13 +161,7 @@ impl Decoder {
         if self.taken < self.held.frame_length(place) {
             return None;
         }
-        let frame = whole_frame(
-            self.alloc,
-            place,
-            &mut self.held,
-            &mut self.pairs,
-            &mut self.trees,
-        );
+        let frame = whole_frame(self.alloc, place, &mut self.held, &mut self.rooms);
         self.held.clear();
         self.received += self.taken as u64;
         self.expected = None;

@@ -1,19 +1,19 @@
 // Frames as bytes.
-ghost use Rattle.std.specs.Prelude.{◌≡◌, ◌*◌, ◌+◌, ◌^◌, ◌≤◌, ◌++◌, ◌∷◌, [], unwrap_or, length, map, flat_map, All, IfOk, OnOk};
+ghost use Rattle.std.specs.Prelude.{◌≡◌, ◌*◌, ◌+◌, ◌≤◌, ◌++◌, ◌∷◌, [], unwrap_or, length, flat_map, All, IfOk, OnOk};
 ghost use Rattle.std.specs.Int.{w32, to_le_bytes};
-ghost use Rattle.zk_model.specs.Bits.{from_bit};
 ghost use Rattle.zk_model.specs.Bytes.{element_bytes};
 ghost use Rattle.zk_model.specs.Field.{IsElement};
 ghost use Rattle.zk_model.specs.Frames.{frame_spelling};
 ghost use Rattle.zk_model.specs.Transcript.{kind_number, frame_bytes, hello_frame, grant_frame, ask_frame, reply_frame, sums_frame, verdict_frame};
-ghost use Rattle.proof_frames.specs.Frames.{frame_value, ask_bytes, message_bytes, reply_bytes, sums_payload, IsShort, IsRanged};
+ghost use Rattle.proof_frames.specs.Frames.{frame_value, ask_bytes, reply_bytes, IsShort, IsRanged};
 ghost use Rattle.zk_model.specs.declared.limits.TheConstants.{MAX_PAYLOAD};
 
 use crate::frame::{Frame, Grant, Hello, number_of};
+use crate::spelling::{Spelled, push_all};
 use mersenne_field::Fe;
 use std::alloc::{AllocError, Global};
 use tree_messages::{TreeAsk, TreeReply};
-use zk_model::{BlockPair, FrameKind, LONG_HELLO_LENGTH};
+use zk_model::{FrameKind, LONG_HELLO_LENGTH};
 
 /// A frame of this kind whose payload will have so many bytes, without the payload.
 fn begin(alloc: Global, kind: FrameKind, length: usize) -> Result<Vec<u8>, AllocError>
@@ -26,75 +26,6 @@ fn begin(alloc: Global, kind: FrameKind, length: usize) -> Result<Vec<u8>, Alloc
     Ok(bytes)
 }
 
-/// Appends elements, 8 bytes each.
-fn push_elements(bytes: &mut Vec<u8>, elements: &[Fe]) -> Result<(), AllocError>
-    ensures bytes { OnOk result (bytes.new.items ≡ bytes.old.items ++ flat_map element_bytes elements.now) }
-    ensures range { OnOk result (All IsElement elements.now) }
-{
-    for element in elements {
-        bytes.extend_from_slice(&element.to_le())?;
-    }
-    Ok(())
-}
-
-/// Appends pairs of elements, 16 bytes each.
-fn push_sums(bytes: &mut Vec<u8>, sums: &[(Fe, Fe)]) -> Result<(), AllocError>
-    ensures bytes { OnOk result (bytes.new.items ≡ bytes.old.items ++ sums_payload sums.now) }
-    ensures range { OnOk result (All (λ both. IsElement both.0 × IsElement both.1) sums.now) }
-{
-    for (constant, linear) in sums {
-        bytes.extend_from_slice(&constant.to_le())?;
-        bytes.extend_from_slice(&linear.to_le())?;
-    }
-    Ok(())
-}
-
-/// Appends bits, a byte each.
-fn push_flips(bytes: &mut Vec<u8>, flips: &[bool]) -> Result<(), AllocError>
-    ensures { OnOk result (bytes.new.items ≡ bytes.old.items ++ map from_bit flips.now) }
-{
-    for flip in flips {
-        bytes.push(u8::from(*flip))?;
-    }
-    Ok(())
-}
-
-/// Appends messages, 32 bytes for both of a level.
-fn push_messages(bytes: &mut Vec<u8>, messages: &[BlockPair]) -> Result<(), AllocError>
-    ensures { OnOk result (bytes.new.items ≡ bytes.old.items ++ flat_map message_bytes messages.now) }
-{
-    for both in messages {
-        bytes.extend_from_slice(&both.left)?;
-        bytes.extend_from_slice(&both.right)?;
-    }
-    Ok(())
-}
-
-/// Appends asks, tree by tree.
-fn push_asks(bytes: &mut Vec<u8>, asks: &[TreeAsk]) -> Result<(), AllocError>
-    ensures bytes { OnOk result (bytes.new.items ≡ bytes.old.items ++ flat_map ask_bytes asks.now) }
-    ensures range { OnOk result (All (λ ask. IsElement ask.base_correction) asks.now) }
-{
-    for ask in asks {
-        push_flips(bytes, &ask.flips)?;
-        bytes.extend_from_slice(&ask.base_correction.to_le())?;
-    }
-    Ok(())
-}
-
-/// Appends replies, tree by tree.
-fn push_replies(bytes: &mut Vec<u8>, replies: &[TreeReply]) -> Result<(), AllocError>
-    ensures bytes { OnOk result (bytes.new.items
-        ≡ bytes.old.items ++ flat_map reply_bytes replies.now) }
-    ensures range { OnOk result (All (λ reply. IsElement reply.leaf_offset) replies.now) }
-{
-    for reply in replies {
-        push_messages(bytes, &reply.messages)?;
-        bytes.extend_from_slice(&reply.leaf_offset.to_le())?;
-    }
-    Ok(())
-}
-
 /// A frame of this kind and payload.
 fn framed(alloc: Global, kind: FrameKind, payload: &[u8]) -> Result<Vec<u8>, AllocError>
     requires { length payload.now ≤ MAX_PAYLOAD }
@@ -103,6 +34,40 @@ fn framed(alloc: Global, kind: FrameKind, payload: &[u8]) -> Result<Vec<u8>, All
     let mut bytes = begin(alloc, kind, payload.len())?;
     bytes.extend_from_slice(payload)?;
     Ok(bytes)
+}
+
+/// A frame of this kind whose payload is values of so many bytes.
+fn encode_all<T: Spelled>(
+    alloc: Global,
+    kind: FrameKind,
+    size: usize,
+    items: &[T],
+) -> Result<Vec<u8>, AllocError>
+    requires sized { length (flat_map T.spelling items.now) ≡ size }
+    requires short { size ≤ MAX_PAYLOAD }
+    ensures bytes { IfOk result (λ bytes. bytes.items
+        ≡ frame_bytes kind (flat_map T.spelling items.now)) }
+    ensures range { OnOk result (All T.ranged items.now) }
+{
+    let mut bytes = begin(alloc, kind, size)?;
+    push_all(&mut bytes, items)?;
+    Ok(bytes)
+}
+
+/// A frame of this kind whose payload is trees.
+fn encode_trees<T: Spelled>(
+    alloc: Global,
+    kind: FrameKind,
+    trees: &[T],
+) -> Result<Vec<u8>, AllocError>
+    requires { length (flat_map T.spelling trees.now) ≤ MAX_PAYLOAD }
+    ensures bytes { IfOk result (λ bytes. bytes.items
+        ≡ frame_bytes kind (flat_map T.spelling trees.now)) }
+    ensures range { OnOk result (All T.ranged trees.now) }
+{
+    let mut payload = Vec::new(alloc);
+    push_all(&mut payload, trees)?;
+    framed(alloc, kind, &payload)
 }
 
 /// Appends a digest, if there is one.
@@ -159,9 +124,7 @@ pub fn encode_asks(alloc: Global, asks: &[TreeAsk]) -> Result<Vec<u8>, AllocErro
     ensures bytes { IfOk result (λ bytes. bytes.items ≡ ask_frame asks.now) }
     ensures range { OnOk result (All (λ ask. IsElement ask.base_correction) asks.now) }
 {
-    let mut payload = Vec::new(alloc);
-    push_asks(&mut payload, asks)?;
-    framed(alloc, FrameKind::ExtendAsk, &payload)
+    encode_trees(alloc, FrameKind::ExtendAsk, asks)
 }
 
 /// What the verifier replies for the trees of a unit, as it is sent: for each tree 32 bytes for the messages of each level,
@@ -175,9 +138,7 @@ pub fn encode_replies(alloc: Global, replies: &[TreeReply]) -> Result<Vec<u8>, A
     ensures bytes { IfOk result (λ bytes. bytes.items ≡ reply_frame replies.now) }
     ensures range { OnOk result (All (λ reply. IsElement reply.leaf_offset) replies.now) }
 {
-    let mut payload = Vec::new(alloc);
-    push_replies(&mut payload, replies)?;
-    framed(alloc, FrameKind::ExtendReply, &payload)
+    encode_trees(alloc, FrameKind::ExtendReply, replies)
 }
 
 /// A frame of elements, as it is sent: corrections, a challenge or openings, 8 bytes for each element.
@@ -195,9 +156,7 @@ pub fn encode_elements(
         ≡ frame_bytes kind (flat_map element_bytes elements.now)) }
     ensures range { OnOk result (All IsElement elements.now) }
 {
-    let mut bytes = begin(alloc, kind, 8 * elements.len())?;
-    push_elements(&mut bytes, elements)?;
-    Ok(bytes)
+    encode_all(alloc, kind, 8 * elements.len(), elements)
 }
 
 /// The sums of all sections, as they are sent: U and V, 16 bytes for each section.
@@ -210,9 +169,7 @@ pub fn encode_sums(alloc: Global, sums: &[(Fe, Fe)]) -> Result<Vec<u8>, AllocErr
     ensures bytes { IfOk result (λ bytes. bytes.items ≡ sums_frame sums.now) }
     ensures range { OnOk result (All (λ both. IsElement both.0 × IsElement both.1) sums.now) }
 {
-    let mut bytes = begin(alloc, FrameKind::Sums, 16 * sums.len())?;
-    push_sums(&mut bytes, sums)?;
-    Ok(bytes)
+    encode_all(alloc, FrameKind::Sums, 16 * sums.len(), sums)
 }
 
 /// A verdict, as it is sent: a payload of 5 bytes.

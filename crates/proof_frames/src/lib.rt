@@ -5,7 +5,7 @@
 //!
 //! `frame` has `Frame`, `Hello` and `Grant`, `encoding` has `encode` and encoders of single frames. `decoder` has `Decoder`; `row`
 //! has the kind and the fields of the frames at each place, `held` the bytes and elements of the frame under way, `rooms` the room
-//! for them, `whole` and `trees` make the frame of them. `laws` says that bytes are one frame or have one first bad byte.
+//! for what is handed out, `whole` makes the frame of them, `spelling` has values as bytes and trees from them. `laws` says that bytes are one frame or have one first bad byte.
 //!
 //!     decoder.expect(Expect::Challenge)?;
 //!     let taken = decoder.feed(piece)?;       // or BadFrame { place, kind }
@@ -19,7 +19,7 @@ mod held;
 pub mod laws;
 mod rooms;
 mod row;
-mod trees;
+mod spelling;
 mod whole;
 
 pub use decoder::{BadFrame, Decoder};

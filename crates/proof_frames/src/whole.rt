@@ -3,28 +3,18 @@ ghost use Rattle.std.specs.Prelude.{◌≡◌, ℕ, ◌+◌, ◌*◌, ◌≤◌,
 ghost use Rattle.std.specs.Int.{w32, w64, to_le_bytes, from_le_bytes};
 ghost use Rattle.zk_model.specs.Frames as model;
 ghost use Rattle.proof_frames.specs.Frames.{frame_value, flattened, digest_in, hello_in, grant_or_refusal_in, verdict_in};
-ghost use Rattle.proof_frames.specs.Holding.{bytes_of, Holds, pairs_at};
-ghost use Rattle.proof_frames.specs.Rooms.{HasTreeRooms};
+ghost use Rattle.proof_frames.specs.Holding.{bytes_of, Holds};
+ghost use Rattle.proof_frames.specs.Rooms.{HasRooms};
 ghost use Rattle.proof_frames.specs.Rows.{row_of, payload_length};
 
 use crate::frame::{Frame, Grant, Hello};
 use crate::held::Held;
-use crate::rooms::TreeRooms;
-use crate::trees::{asks_of, replies_of};
+use crate::rooms::Rooms;
+use crate::spelling::{array, trees_of};
 use mersenne_field::Fe;
 use std::alloc::Global;
 use std::mem;
 use zk_model::Expect;
-
-/// The bytes as an array of so many.
-fn array<const N: usize>(bytes: &[u8]) -> [u8; N]
-    requires { length bytes.now ≡ N }
-    ensures { result ≡ bytes.now }
-{
-    let mut array = [0; N];
-    array.copy_from_slice(bytes);
-    array
-}
 
 /// The digest of public bits, if all of it is there.
 fn digest_of(bytes: &[u8]) -> Option<[u8; 32]>
@@ -90,9 +80,8 @@ fn verdict_of(payload: &[u8]) -> Frame
 fn pairs_of(alloc: Global, elements: &[Fe], pairs: &mut Vec<(Fe, Fe)>) -> Vec<(Fe, Fe)>
     requires empty { pairs.old.items ≡ [] }
     requires room { length elements.now ≤ 2 * vec_capacity pairs.old }
-    ensures pairs { (count : ℕ) → length elements.now ≡ 2 * count
+    ensures { (count : ℕ) → length elements.now ≡ 2 * count
         → (elements.now ≡ flattened result.items) × (length result.items ≡ count) }
-    ensures empty { pairs.new.items ≡ [] }
 {
     let mut rest = elements;
     while let [constant, linear, behind @ ..] = rest {
@@ -103,33 +92,25 @@ fn pairs_of(alloc: Global, elements: &[Fe], pairs: &mut Vec<(Fe, Fe)>) -> Vec<(F
 }
 
 /// The frame that is held whole. Its elements are handed out.
-pub(crate) fn whole_frame(
-    alloc: Global,
-    place: Expect,
-    held: &mut Held,
-    pairs: &mut Vec<(Fe, Fe)>,
-    trees: &mut TreeRooms,
-) -> Frame
+pub(crate) fn whole_frame(alloc: Global, place: Expect, held: &mut Held, rooms: &mut Rooms) -> Frame
     requires holds { Holds place held.old }
     requires whole { length (bytes_of held.old) ≡ model.frame_length place (bytes_of held.old) }
-    requires empty { pairs.old.items ≡ [] }
-    requires room { pairs_at place ≤ vec_capacity pairs.old }
-    requires trees { HasTreeRooms place trees.old }
-    ensures frame { model.IsWhole place (bytes_of held.old) (frame_value result) }
-    ensures pairs { pairs.new.items ≡ [] }
+    requires rooms { HasRooms place rooms.old }
+    ensures { model.IsWhole place (bytes_of held.old) (frame_value result) }
 {
     match place {
         Expect::Hello => Frame::Hello(hello_of(held.payload())),
         Expect::Grant => grant_or_refusal_of(held.start[0], held.payload()),
         Expect::Ask { height, .. } => {
-            Frame::ExtendAsk(asks_of(alloc, held.payload(), height, trees))
+            Frame::ExtendAsk(trees_of(alloc, held.payload(), height, &mut rooms.asks))
         }
         Expect::Reply { height, .. } => {
-            Frame::ExtendReply(replies_of(alloc, held.payload(), height, trees))
+            let trees = trees_of(alloc, held.payload(), height, &mut rooms.replies);
+            Frame::ExtendReply(trees)
         }
         Expect::Corrections { .. } => Frame::Corrections(held.give_elements(alloc)),
         Expect::Challenge => Frame::Challenge(held.elements[0]),
-        Expect::Sums { .. } => Frame::Sums(pairs_of(alloc, &held.elements, pairs)),
+        Expect::Sums { .. } => Frame::Sums(pairs_of(alloc, &held.elements, &mut rooms.pairs)),
         Expect::Openings { .. } => Frame::Openings(held.give_elements(alloc)),
         Expect::Verdict => verdict_of(held.payload()),
     }

@@ -4,8 +4,8 @@ use Rattle.proof_frames.specs.Frames.{flattened}
 use Rattle.proof_frames.proofs.Sums.{length-flattened}
 use Rattle.proof_frames.proofs.whole.pairs_of.Goals as goal
 
-pub returns-clause-pairs : goal.returns-clause-pairs
-returns-clause-pairs c = λ count even.
+pub returns : goal.returns
+returns c = λ count even.
     let pairs = c.loop-rest.pairs.items in
     let rest = c.loop-rest.rest.now in
     let sizes : length c.args.elements.now ≡ length (flattened pairs) + length rest = ap length c.loop-rest.invariant.bytes ∙ length-append (flattened pairs) rest in
