@@ -102,29 +102,32 @@ impl Slot {
 
 impl Field {
     ghost use Rattle.proof_frames.specs.Rows.{any, between, free, width, IsFree, field_slots};
+    ghost use Rattle.proof_frames.specs.declared.row.Field.TheVariants as field;
+
+    /// So many bytes, so many times, each in a range.
+    fn bytes(count: usize, size: usize, least: u8, most: u8) -> Self
+        ensures { result ≡ field.Bytes count size least most }
+    {
+        Field::Bytes {
+            count,
+            size,
+            least,
+            most,
+        }
+    }
 
     /// So many bytes of any value.
     fn any(count: usize) -> Self
         ensures { result ≡ any count }
     {
-        Field::Bytes {
-            count,
-            size: 1,
-            least: 0,
-            most: 255,
-        }
+        Field::bytes(count, 1, 0, 255)
     }
 
     /// A byte in a range.
     fn between(least: u8, most: u8) -> Self
         ensures { result ≡ between least most }
     {
-        Field::Bytes {
-            count: 1,
-            size: 1,
-            least,
-            most,
-        }
+        Field::bytes(1, 1, least, most)
     }
 
     /// How many bytes it has.
@@ -170,32 +173,29 @@ impl Payload {
     ghost use Rattle.proof_frames.specs.declared.row.Field.TheVariants as field;
     ghost use Rattle.proof_frames.specs.declared.row.Payload.TheVariants as payload;
 
+    /// Two fields, so many times.
+    fn fields(times: usize, first: Field, second: Field) -> Self
+        ensures { result ≡ payload.Fields times first second }
+    {
+        Payload::Fields {
+            times,
+            first,
+            second,
+        }
+    }
+
     /// One field alone.
     fn one_field(field: Field) -> Self
         ensures { result ≡ one_field field }
     {
-        Payload::Fields {
-            times: 1,
-            first: field,
-            second: Field::any(0),
-        }
+        Payload::fields(1, field, Field::any(0))
     }
 
     /// For each tree so many bytes for each level, each up to the most, and an element.
     fn trees(trees: usize, height: usize, size: usize, most: u8) -> Self
         ensures { result ≡ payload.Fields trees (field.Bytes height size 0 most) field.Element }
     {
-        let first = Field::Bytes {
-            count: height,
-            size,
-            least: 0,
-            most,
-        };
-        Payload::Fields {
-            times: trees,
-            first,
-            second: Field::Element,
-        }
+        Payload::fields(trees, Field::bytes(height, size, 0, most), Field::Element)
     }
 
     /// How many bytes it has.
@@ -282,24 +282,13 @@ impl Row {
             Expect::Corrections { count } => (FrameKind::Corrections, Payload::Elements { count }),
             Expect::Challenge => (FrameKind::Challenge, Payload::Elements { count: 1 }),
             Expect::Sums { sections } => {
-                (
-                    FrameKind::Sums,
-                    Payload::Elements {
-                        count: 2 * sections,
-                    },
-                )
+                let count = 2 * sections;
+                (FrameKind::Sums, Payload::Elements { count })
             }
             Expect::Openings { count } => (FrameKind::Openings, Payload::Elements { count }),
             Expect::Verdict => {
-                let (first, second) = (Field::between(0, 2), Field::any(4));
-                (
-                    FrameKind::Verdict,
-                    Payload::Fields {
-                        times: 1,
-                        first,
-                        second,
-                    },
-                )
+                let payload = Payload::fields(1, Field::between(0, 2), Field::any(4));
+                (FrameKind::Verdict, payload)
             }
         };
         Row { kind, payload }
