@@ -77,11 +77,11 @@ begins_fewer place bytes n begun = begins_front place (take n bytes) (drop n byt
 -- all of them are bytes
 come_bytes : (place : Expect) (byte : ℕ) (bytes : List ℕ) → Come (frame_slots place byte) bytes → All IsByte bytes
 come_bytes place byte bytes come = All-from_get_or IsByte bytes 0 (λ n less.
-    small (get_or (frame_slots place byte) n free) n (take n bytes) (get_or bytes n 0) (sound_at place byte n) (come n less))
+    small (get_or (frame_slots place byte) n free) (take n bytes) (get_or bytes n 0) (sound_at place byte n) (come n less))
   where
-    small : (s : Slot) (n : ℕ) (before : List ℕ) (byte : ℕ) → IsSoundSlot n s → May s before byte → byte < 256
-    small (slot.Range least most) n before byte sound may = let high = may.1 in omega arith
-    small slot.Last n before byte sound may = may.0
+    small : (s : Slot) (before : List ℕ) (byte : ℕ) → IsSoundSlot s → May s before byte → byte < 256
+    small (slot.Range least most) before byte sound may = let high = may.1 in omega arith
+    small slot.Last before byte sound may = may.0
 
 -- ---- whole words
 
@@ -116,11 +116,11 @@ least_of : Slot → ℕ
 least_of (slot.Range least most) = least
 least_of slot.Last = 0
 
-may_least : (s : Slot) (bytes : List ℕ) → IsSoundSlot (length bytes) s → All IsByte bytes → May s bytes (least_of s)
+may_least : (s : Slot) (bytes : List ℕ) → IsSoundSlot s → All IsByte bytes → May s bytes (least_of s)
 unfolding least_of
 may_least (slot.Range least most) bytes sound all = (omega arith, sound.0)
 may_least slot.Last bytes sound all =
-    (omega arith, ends_in_zero (drop (length bytes - 7) bytes) (omega (arith, length-drop (length bytes - 7) bytes)) (All-drop IsByte (length bytes - 7) bytes all))
+    (omega arith, λ seven. ends_in_zero (drop (length bytes - 7) bytes) (omega (arith, length-drop (length bytes - 7) bytes)) (All-drop IsByte (length bytes - 7) bytes all))
 
 -- so many more may come
 goes_on : (place : Expect) (byte many : ℕ) (bytes : List ℕ) → Come (frame_slots place byte) bytes → (rest : List ℕ) × Come (frame_slots place byte) (bytes ++ rest) × (length rest ≡ many)
@@ -165,12 +165,15 @@ may_or_not (slot.Range least most) before byte small = by_order (cases_lt byte l
     by_order (inl below) high = inr (λ may. let low = may.0 in omega arith)
     by_order (inr low) (inl above) = inr (λ may. let high = may.1 in omega arith)
     by_order (inr low) (inr high) = inl (low, high)
-may_or_not slot.Last before byte small = by_order (cases_lt (from_le_bytes w64 (drop (length before - 7) before ++ byte ∷ [])) prime)
+may_or_not slot.Last before byte small = by_order (cases_lt (length before) 7) (cases_lt value prime)
   where
-    by_order : (from_le_bytes w64 (drop (length before - 7) before ++ byte ∷ []) < prime) ⊎ (prime ≤ from_le_bytes w64 (drop (length before - 7) before ++ byte ∷ []))
-        → May slot.Last before byte ⊎ (¬ May slot.Last before byte)
-    by_order (inl below) = inl (small, below)
-    by_order (inr above) = inr (λ may. let below = may.1 in omega arith)
+    value : ℕ
+    value = from_le_bytes w64 (drop (length before - 7) before ++ byte ∷ [])
+
+    by_order : (length before < 7) ⊎ (7 ≤ length before) → (value < prime) ⊎ (prime ≤ value) → May slot.Last before byte ⊎ (¬ May slot.Last before byte)
+    by_order (inl few) order = inl (small, λ seven. absurd (omega arith))
+    by_order (inr seven) (inl below) = inl (small, λ seven. below)
+    by_order (inr seven) (inr above) = inr (λ may. let below = may.1 seven in omega arith)
 
 -- up to any of the bytes they begin a frame, or one is bad
 run : (place : Expect) (bytes : List ℕ) → All IsByte bytes → length bytes ≤ frame_length place bytes → (n : ℕ) → n ≤ length bytes

@@ -1,10 +1,11 @@
 -- What holds of the row of every frame: which byte tells it, and which bytes may come.
-use Rattle.std.proofs.Common.{◌≡◌, ℕ, zero, suc, ◌-◌, ◌*◌, ◌<◌, ◌≤◌, ◌⊎◌, inl, inr, Bool, true, false, nat_eq, List, [], ◌∷◌, ◌++◌, map, length, get_or, refl, sym, ◌∙◌, arith, subst}
+use Rattle.std.proofs.Common.{◌≡◌, ℕ, zero, suc, ◌*◌, ◌<◌, ◌≤◌, ◌⊎◌, inl, inr, Bool, true, false, nat_eq, List, [], ◌∷◌, ◌++◌, map, length, get_or, replicate, refl, sym, ◌∙◌, arith, subst}
 use Rattle.std.specs.Int.{w32, to_le_bytes}
+use Rattle.std.specs.Prelude.{All}
 use Rattle.std.specs.List.{AllByRecursion}
 use Rattle.std.proofs.lemmas.Bool.{cases_lt, false≢true}
-use Rattle.std.proofs.lemmas.List.{get_or-replicate, length-replicate, get_or_append_left, get_or-append_right}
-use Rattle.std.proofs.lemmas.List.Elements.{recursion_from_All}
+use Rattle.std.proofs.lemmas.List.{get_or_append_left, get_or_past}
+use Rattle.std.proofs.lemmas.List.Elements.{All-nil, All-cons, All-append, All-get_or, All-replicate, recursion_from_All}
 use Rattle.zk_model.specs.declared.Expect.{Expect}
 use Rattle.zk_model.specs.declared.Expect.TheVariants as expect
 use Rattle.zk_model.specs.declared.FrameKind.{FrameKind}
@@ -20,7 +21,7 @@ use Rattle.proof_frames.specs.declared.row.Slot.TheVariants as slot
 use Rattle.proof_frames.specs.Holding.{is_list, elements_in, longest}
 use Rattle.proof_frames.specs.Rows.{row_of, told_at, told, header, payload_length, payload_fields, row_fields, field_slots, frame_slots, free, repeat, exactly}
 use Rattle.proof_frames.proofs.Octets.{IsByte, half_octets}
-use Rattle.proof_frames.proofs.Fields.{slots, element_slot}
+use Rattle.proof_frames.proofs.Fields.{slots}
 
 -- What holds of the row at each place told by 0, of the long form of a hello, and in a grant's place of a refusal, holds whatever
 -- byte tells it.
@@ -99,14 +100,10 @@ abbrev pub IsSoundField : Field → Type 0
 IsSoundField (field.Bytes count size least most) = (least ≤ most) × (most < 256)
 IsSoundField field.Element = Unit {0}
 
--- at n such a range, or the last byte of an element after seven others
-abbrev pub IsSoundSlot : ℕ → Slot → Type 0
-IsSoundSlot n (slot.Range least most) = (least ≤ most) × (most < 256)
-IsSoundSlot n slot.Last = 7 ≤ n
-
-later : (s : Slot) (k n : ℕ) → k ≤ n → IsSoundSlot k s → IsSoundSlot n s
-later (slot.Range least most) k n less sound = sound
-later slot.Last k n less sound = omega arith
+-- such a range, or the last byte of an element
+abbrev pub IsSoundSlot : Slot → Type 0
+IsSoundSlot (slot.Range least most) = (least ≤ most) × (most < 256)
+IsSoundSlot slot.Last = Unit {0}
 
 -- the fields of all payloads
 abbrev AreSound : Payload → Type 0
@@ -128,29 +125,13 @@ sound_payload = every_row (λ place row. AreSound row.payload) (any_sound, any_s
     by_place place = tt
 
 -- the slots of fields are, where the fields are
-sound_field : (one : Field) → IsSoundField one → (n : ℕ) → n < length (field_slots one) → IsSoundSlot n (get_or (field_slots one) n free)
-sound_field (field.Bytes count size least most) sound n less =
-    subst (IsSoundSlot n) (sym (get_or-replicate (size * count) n (slot.Range least most) free
-    (let sized = length-replicate (size * count) (slot.Range least most) in omega arith))) sound
-sound_field field.Element sound n less = by_place (cases_lt n 7)
+sound_slots : (fields : List Field) → AllByRecursion IsSoundField fields → All IsSoundSlot (slots fields)
+sound_slots [] each = All-nil IsSoundSlot
+sound_slots (one ∷ fields) each = All-append IsSoundSlot (field_slots one) (slots fields) (here one each.0) (sound_slots fields each.1)
   where
-    by_place : (n < 7) ⊎ (7 ≤ n) → IsSoundSlot n (get_or (field_slots field.Element) n free)
-    by_place (inl early) = subst (IsSoundSlot n) (sym (element_slot n early)) any_sound
-    by_place (inr late) =
-        let at : 7 ≡ n = omega arith in
-        subst (λ (m : ℕ). IsSoundSlot m (get_or (field_slots field.Element) m free)) at (let e : 7 ≤ 7 = omega arith in e)
-
-sound_slots : (fields : List Field) → AllByRecursion IsSoundField fields → (n : ℕ) → IsSoundSlot n (get_or (slots fields) n free)
-sound_slots [] each n = any_sound
-sound_slots (one ∷ fields) each n = by_place (cases_lt n (length (field_slots one))) (sound_slots fields each.1 (n - length (field_slots one)))
-  where
-    by_place : (n < length (field_slots one)) ⊎ (length (field_slots one) ≤ n) → IsSoundSlot (n - length (field_slots one)) (get_or (slots fields) (n - length (field_slots one)) free)
-        → IsSoundSlot n (get_or (slots (one ∷ fields)) n free)
-    by_place (inl here) behind = subst (IsSoundSlot n) (sym (get_or_append_left (field_slots one) (slots fields) free n here)) (sound_field one each.0 n here)
-    by_place (inr past) behind =
-        let k = n - length (field_slots one) in
-        subst (IsSoundSlot n) (sym (get_or-append_right (field_slots one) (slots fields) (length (field_slots one)) n free refl past))
-        (later (get_or (slots fields) k free) k n (omega arith) behind)
+    here : (one : Field) → IsSoundField one → All IsSoundSlot (field_slots one)
+    here (field.Bytes count size least most) sound = All-replicate IsSoundSlot (size * count) (slot.Range least most) sound
+    here field.Element sound = All-append IsSoundSlot (replicate 7 free) (slot.Last ∷ []) (All-replicate IsSoundSlot 7 free any_sound) (All-cons IsSoundSlot slot.Last [] tt (All-nil IsSoundSlot))
 
 sound_append : (some more : List Field) → AllByRecursion IsSoundField some → AllByRecursion IsSoundField more → AllByRecursion IsSoundField (some ++ more)
 sound_append [] more all each = each
@@ -173,10 +154,18 @@ sound_exact : (bytes : List ℕ) → AllByRecursion IsByte bytes → AllByRecurs
 sound_exact [] small = tt
 sound_exact (byte ∷ bytes) small = ((omega arith, small.0), sound_exact bytes small.1)
 
-pub sound_at : (place : Expect) (byte n : ℕ) → IsSoundSlot n (get_or (frame_slots place byte) n free)
-sound_at place byte n =
-    let row = row_of place byte in
-    sound_slots (row_fields row)
-    (sound_append (map exactly (header row)) (payload_fields row.payload)
-    (sound_exact (header row) (kind_small row.kind, recursion_from_All IsByte (to_le_bytes w32 (payload_length row.payload)) (half_octets (payload_length row.payload))))
-    (sound_fields row.payload (sound_payload place byte))) n
+pub sound_at : (place : Expect) (byte n : ℕ) → IsSoundSlot (get_or (frame_slots place byte) n free)
+sound_at place byte n = by_place (cases_lt n (length (frame_slots place byte)))
+  where
+    row : Row
+    row = row_of place byte
+
+    all : All IsSoundSlot (frame_slots place byte)
+    all = sound_slots (row_fields row)
+        (sound_append (map exactly (header row)) (payload_fields row.payload)
+        (sound_exact (header row) (kind_small row.kind, recursion_from_All IsByte (to_le_bytes w32 (payload_length row.payload)) (half_octets (payload_length row.payload))))
+        (sound_fields row.payload (sound_payload place byte)))
+
+    by_place : (n < length (frame_slots place byte)) ⊎ (length (frame_slots place byte) ≤ n) → IsSoundSlot (get_or (frame_slots place byte) n free)
+    by_place (inl less) = All-get_or IsSoundSlot (frame_slots place byte) n free less all
+    by_place (inr past) = subst IsSoundSlot (sym (get_or_past (frame_slots place byte) n free past)) any_sound

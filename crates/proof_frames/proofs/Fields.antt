@@ -97,7 +97,7 @@ element_comes before bytes spells = subst (ComeAfter (field_slots field.Element)
         let at : 7 ≡ n = omega arith in
         subst (λ (m : ℕ). IsFine (coming (field_slots field.Element) before eight m)) at (
           word_octets spells.element 7 0 (omega arith),
-          subst (λ (l : List ℕ). IsElement (from_le_bytes w64 (l ++ get_or eight 7 0 ∷ []))) (sym (last_seven before (take 7 eight) refl))
+          λ seven. subst (λ (l : List ℕ). IsElement (from_le_bytes w64 (l ++ get_or eight 7 0 ∷ []))) (sym (last_seven before (take 7 eight) refl))
               (says_element eight spells.element spells.is refl),
         )
 
@@ -109,7 +109,8 @@ spells_element before bytes come sized =
     let before_it : drop (length (before ++ seven) - 7) (before ++ seven) ≡ seven = last_seven before seven (length-take-le 7 bytes (omega arith)) in
     record {
       element = from_le_bytes w64 bytes;
-      is = subst (λ (l : List ℕ). IsElement (from_le_bytes w64 l)) (ap (λ l. l ++ get_or bytes 7 0 ∷ []) before_it ∙ whole) last.1;
+      is = subst (λ (l : List ℕ). IsElement (from_le_bytes w64 l)) (ap (λ l. l ++ get_or bytes 7 0 ∷ []) before_it ∙ whole)
+          (last.1 (omega (arith, length-append before seven, length-take-le 7 bytes (omega arith))));
       spelled = sym (back_64 bytes sized (All-from_get_or IsByte bytes 0 (λ n less. by_place n less (cases_lt n 7))));
     }
   where

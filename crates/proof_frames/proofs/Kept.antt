@@ -10,16 +10,17 @@ use Rattle.zk_model.specs.Field.{IsElement}
 use Rattle.zk_model.specs.Bytes.{element_bytes}
 use Rattle.zk_model.specs.Frames.{AreElements, CanGoOn, frame_length}
 use Rattle.zk_model.specs.declared.Expect.{Expect}
+use Rattle.proof_frames.specs.declared.held.Held.{Held}
 use Rattle.proof_frames.specs.declared.row.Field.TheVariants as field
 use Rattle.proof_frames.specs.declared.row.Payload.{Payload}
 use Rattle.proof_frames.specs.declared.row.Payload.TheVariants as payload
 use Rattle.proof_frames.specs.declared.row.Row.{Row}
 use Rattle.proof_frames.specs.declared.row.Slot.{Slot}
 use Rattle.proof_frames.specs.declared.row.Slot.TheVariants as slot
-use Rattle.proof_frames.specs.Holding.{AreElementsApart, AreKept, is_list, elements_in, longest, spelled}
+use Rattle.proof_frames.specs.Holding.{AreElementsApart, AreKept, Holds, HasFrameRoom, Steps, bytes_of, is_list, elements_in, longest, spelled}
 use Rattle.proof_frames.specs.Rows.{BeginsFrame, MayFollow, May, row_of, told_at, told, header, payload_length, payload_fields, row_fields, frame_slots, field_slots, free, exactly}
 use Rattle.proof_frames.proofs.Begun.{begins_more, begins_word, ends_here}
-use Rattle.proof_frames.proofs.EveryRow.{told_early, told_stays, list_row, same_list, sound_at, IsSoundSlot}
+use Rattle.proof_frames.proofs.EveryRow.{told_early, told_stays, list_row, same_list}
 use Rattle.proof_frames.proofs.Fields.{ComeAfter, slots, come_on, come_front, element_comes, element_slot, slot_of_element, last_seven}
 use Rattle.proof_frames.proofs.FrameLemmas.{length-elements}
 use Rattle.proof_frames.proofs.Lengths.{length_told, front_fits}
@@ -42,11 +43,6 @@ only_raw start elements part empty =
 pub raw_empty : (list : Bool) (start elements part : List ℕ) → AreKept list start elements part → (list ≡ true → length start < 5) → (elements ≡ []) × (part ≡ [])
 raw_empty false start elements part kept early = kept
 raw_empty true start elements part kept early = kept.first (early refl)
-
--- the last byte of an element comes after seven others
-pub late_last : (place : Expect) (byte n : ℕ) (row : Row) (s : Slot) → row ≡ row_of place byte → s ≡ get_or (slots (row_fields row)) n free → s ≡ slot.Last → 7 ≤ n
-late_last place byte n row s is_row is_slot last =
-    subst (IsSoundSlot n) (ap (λ r. get_or (slots (row_fields r)) n free) (sym is_row) ∙ sym is_slot ∙ last) (sound_at place byte n)
 
 -- whether a byte may come where all bytes are as they came
 pub raw_follows : (place : Expect) (start given : List ℕ) (byte n : ℕ) (row : Row) (s : Slot) → row ≡ row_of place (told place (start ++ byte ∷ []))
@@ -81,6 +77,10 @@ stepped : (place : Expect) (list : Bool) (start elements part old : List ℕ) (b
     → MayFollow place old byte → spelled start elements part ≡ old ++ byte ∷ [] → AreKept list start elements part → Stepped place list start elements part old byte
 stepped place list start elements part old byte begun within follows bytes kept =
     record { begun = subst (BeginsFrame place) (sym bytes) (begins_more place old byte begun within follows); kept = kept; bytes = bytes }
+
+pub steps : (place : Expect) (old new : Held) (byte : ℕ) → Holds place old → HasFrameRoom place new
+    → Stepped place (is_list (longest place)) new.start.items new.elements.items new.part.items (bytes_of old) byte → Steps place old byte true new
+steps place old new byte holds room now = (record { short = holds.short; begun = now.begun; kept = now.kept; room = room }, now.bytes)
 
 pub raw_step : (place : Expect) (list : Bool) (start elements part : List ℕ) (byte : ℕ) → BeginsFrame place (spelled start elements part) → AreKept list start elements part
     → (list ≡ true → length start < 5) → length (spelled start elements part ++ byte ∷ []) ≤ frame_length place (spelled start elements part ++ byte ∷ [])
@@ -187,13 +187,13 @@ module _ (place : Expect) (start elements part : List ℕ) (list : is_list (long
       → IsElement (from_le_bytes w64 (part ++ byte ∷ [])) → MayFollow place (spelled start elements part) byte
   last_follows byte small seven within is =
       subst (λ (s : Slot). May s (spelled start elements part) byte) (sym (last_slot byte seven within))
-      (small, subst (λ (l : List ℕ). IsElement (from_le_bytes w64 (l ++ byte ∷ []))) (sym (last_bytes seven)) is)
+      (small, λ many. subst (λ (l : List ℕ). IsElement (from_le_bytes w64 (l ++ byte ∷ []))) (sym (last_bytes seven)) is)
 
   pub last_ends : (byte : ℕ) → length part ≡ 7 → length (spelled start elements part ++ byte ∷ []) ≤ frame_length place (spelled start elements part ++ byte ∷ [])
       → ¬ IsElement (from_le_bytes w64 (part ++ byte ∷ [])) → ¬ CanGoOn place (spelled start elements part ++ byte ∷ [])
   last_ends byte seven within not = ends_here place (spelled start elements part) byte (λ follows.
       let may = subst (λ (s : Slot). May s (spelled start elements part) byte) (last_slot byte seven within) follows in
-      not (subst (λ (l : List ℕ). IsElement (from_le_bytes w64 (l ++ byte ∷ []))) (last_bytes seven) may.1))
+      not (subst (λ (l : List ℕ). IsElement (from_le_bytes w64 (l ++ byte ∷ []))) (last_bytes seven) (may.1 (omega (arith, seven, length-spelled start elements part)))))
 
 -- a byte more of an element
 pub part_step : (place : Expect) (start elements part : List ℕ) (byte : ℕ) → is_list (longest place) ≡ true → length start ≡ 5

@@ -140,10 +140,10 @@ field_slots field.Element = replicate 7 free ++ slot.Last ∷ []
 abbrev pub frame_slots : Expect → ℕ → List Slot
 frame_slots place byte = flat_map field_slots (row_fields (row_of place byte))
 
--- a byte may come after others: it is in the range, or with the seven before it spells an element
+-- a byte may come after others: it is in the range, or with the seven before it, where they are, spells an element
 abbrev pub May : Slot → List ℕ → ℕ → Type 0
 May (slot.Range least most) before byte = (least ≤ byte) × (byte ≤ most)
-May slot.Last before byte = (byte < 256) × IsElement (from_le_bytes w64 (drop (length before - 7) before ++ byte ∷ []))
+May slot.Last before byte = (byte < 256) × (7 ≤ length before → IsElement (from_le_bytes w64 (drop (length before - 7) before ++ byte ∷ [])))
 
 -- a byte may come after others at a place
 abbrev pub MayFollow : Expect → List ℕ → ℕ → Type 0

@@ -86,16 +86,14 @@ fn ends_element(bytes: &[u8], last: u8) -> bool
 
 impl Slot {
     ghost use Rattle.proof_frames.specs.Rows.{May};
-    ghost use Rattle.proof_frames.specs.declared.row.Slot.TheVariants as slot;
 
     /// Whether a byte may come after others.
     pub(crate) fn allows(self, before: &[u8], byte: u8) -> bool
-        requires { self ≡ slot.Last → 7 ≤ length before.now }
         ensures { IsTrue result ↔ May self before.now byte }
     {
         match self {
             Slot::Range { least, most } => least <= byte && byte <= most,
-            Slot::Last => ends_element(before, byte),
+            Slot::Last => before.len() < 7 || ends_element(before, byte),
         }
     }
 }

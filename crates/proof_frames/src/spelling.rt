@@ -82,6 +82,7 @@ impl Spelled for Fe {
 
     ghost ranged = { IsElement };
 
+    #[inline]
     fn push(&self, bytes: &mut Vec<u8>) -> Result<(), AllocError> {
         bytes.extend_from_slice(&self.to_le())?;
         Ok(())
@@ -104,6 +105,7 @@ impl Spelled for (Fe, Fe) {
 
     ghost ranged = { λ both. IsElement both.0 × IsElement both.1 };
 
+    #[inline]
     fn push(&self, bytes: &mut Vec<u8>) -> Result<(), AllocError> {
         self.0.push(bytes)?;
         self.1.push(bytes)

@@ -1,13 +1,8 @@
 use Rattle.std.proofs.Common.{refl, sym, ◌∙◌, arith}
 use Rattle.std.proofs.lemmas.Bool.{false≢true}
-use Rattle.proof_frames.specs.Holding.{is_list, longest, spelled}
-use Rattle.proof_frames.proofs.Kept.{Stepped, late_last, raw_follows, raw_step, raw_ends}
+use Rattle.proof_frames.specs.Holding.{is_list, longest}
+use Rattle.proof_frames.proofs.Kept.{steps, raw_follows, raw_step, raw_ends}
 use Rattle.proof_frames.proofs.held.Held.take_raw_byte.Goals as goal
-
-pub allows-requires : goal.allows-requires
-allows-requires c = λ last.
-    let late = late_last c.args.place _ c.len.result c.args.row c.slot.result c.requires.row c.slot.ensures last in
-    omega (arith, late, c.deref.ensures.len)
 
 pub returns-then-not-allows : goal.returns-then-not-allows
 returns-then-not-allows c =
@@ -25,15 +20,7 @@ returns c =
     let old = c.args.self.now in
     let same = raw_follows c.args.place old.start.items c.deref.result.now c.args.byte c.len.result c.args.row c.slot.result c.requires.row c.slot.ensures (omega (arith, old.start.ok.0))
     c.deref.ensures.value in
-    let step = raw_step c.args.place (is_list (longest c.args.place)) old.start.items old.elements.items old.part.items c.args.byte c.requires.holds.begun c.requires.holds.kept
-    (λ list. let early = c.requires.raw list in omega (arith, early, old.start.ok.0)) c.requires.within (same.0 (c.allows.ensures.0 c.if-not-allows.false)) in
-    let now : Stepped c.args.place (is_list (longest c.args.place)) c.push_reserved.new.self.items old.elements.items old.part.items (spelled old.start.items old.elements.items old.part.items) c.args.byte =
-    rw c.push_reserved.ensures.items step in (
-      record {
-        short = c.requires.holds.short;
-        begun = now.begun;
-        kept = now.kept;
-        room = record { start = omega (arith, c.requires.holds.room.start, c.push_reserved.ensures.capacity); elements = c.requires.holds.room.elements; part = c.requires.holds.room.part };
-      },
-      now.bytes,
-    )
+    steps c.args.place old _ c.args.byte c.requires.holds
+    (record { start = omega (arith, c.requires.holds.room.start, c.push_reserved.ensures.capacity); elements = c.requires.holds.room.elements; part = c.requires.holds.room.part })
+    (rw c.push_reserved.ensures.items (raw_step c.args.place (is_list (longest c.args.place)) old.start.items old.elements.items old.part.items c.args.byte c.requires.holds.begun
+    c.requires.holds.kept (λ list. let early = c.requires.raw list in omega (arith, early, old.start.ok.0)) c.requires.within (same.0 (c.allows.ensures.0 c.if-not-allows.false))))
