@@ -57,17 +57,10 @@ pub returns-in-Ask : goal.returns-in-Ask
 returns-in-Ask c =
     let now = c.in-Ask in
     let stage : Expect = expect.Ask now.height now.trees now.units_left in
-    raw_finished c.args.place stage c.args.held.now c.payload-in-Ask.result.now _ now.is refl (done (goal.at.returns-in-Ask c).Start) c.payload-in-Ask.ensures (λ has. record {
-      allowed = (
-        _,
-        refl,
-        record {
-          counted = c.trees_of.ensures.count ∙ (rooms_at c.args.place stage c.args.rooms.now now.is c.requires.rooms).counted;
-          each = c.trees_of.ensures.fits;
-        },
-      );
-      spelled = ap (frame_bytes kind.ExtendAsk) c.trees_of.ensures.spelled;
-    })
+    let rooms = rooms_at c.args.place stage c.args.rooms.now now.is c.requires.rooms in
+    let are : model.AreAsks now.height now.trees c.trees_of.result.items = record { counted = c.trees_of.ensures.count ∙ rooms.counted; each = c.trees_of.ensures.fits } in
+    raw_finished c.args.place stage c.args.held.now c.payload-in-Ask.result.now _ now.is refl (done (goal.at.returns-in-Ask c).Start) c.payload-in-Ask.ensures
+    (λ has. record { allowed = (_, refl, are); spelled = ap (frame_bytes kind.ExtendAsk) c.trees_of.ensures.spelled })
 
 pub trees_of-trees-requires-clause-payload : goal.trees_of-trees-requires-clause-payload
 trees_of-trees-requires-clause-payload c =
@@ -81,17 +74,10 @@ pub returns-in-Reply : goal.returns-in-Reply
 returns-in-Reply c =
     let now = c.in-Reply in
     let stage : Expect = expect.Reply now.height now.trees now.units_left in
-    raw_finished c.args.place stage c.args.held.now c.payload-in-Reply.result.now _ now.is refl (done (goal.at.returns-in-Reply c).Start) c.payload-in-Reply.ensures (λ has. record {
-      allowed = (
-        _,
-        refl,
-        record {
-          counted = c.trees_of-trees.ensures.count ∙ (rooms_at c.args.place stage c.args.rooms.now now.is c.requires.rooms).counted;
-          each = c.trees_of-trees.ensures.fits;
-        },
-      );
-      spelled = ap (frame_bytes kind.ExtendReply) c.trees_of-trees.ensures.spelled;
-    })
+    let rooms = rooms_at c.args.place stage c.args.rooms.now now.is c.requires.rooms in
+    let are : model.AreReplies now.height now.trees c.trees_of-trees.result.items = record { counted = c.trees_of-trees.ensures.count ∙ rooms.counted; each = c.trees_of-trees.ensures.fits } in
+    raw_finished c.args.place stage c.args.held.now c.payload-in-Reply.result.now _ now.is refl (done (goal.at.returns-in-Reply c).Start) c.payload-in-Reply.ensures
+    (λ has. record { allowed = (_, refl, are); spelled = ap (frame_bytes kind.ExtendReply) c.trees_of-trees.ensures.spelled })
 
 pub returns-in-Corrections : goal.returns-in-Corrections
 returns-in-Corrections c =
