@@ -68,7 +68,7 @@ fn take_elements<'a>(elements: &mut Vec<Fe>, piece: &'a [u8]) -> &'a [u8]
 impl Held {
     ghost use Rattle.proof_frames.specs.Readings.{IsShortPlace};
     ghost use Rattle.proof_frames.specs.Rows.{row_of, told};
-    ghost use Rattle.proof_frames.specs.Holding.{bytes_of, is_list, longest, IsEmpty, HasFrameRoom, Holds, Steps, Runs};
+    ghost use Rattle.proof_frames.specs.Holding.{bytes_of, is_list, longest, IsEmpty, Holds, Steps, Runs};
 
     /// Nothing.
     pub(crate) fn new(alloc: Global) -> Self

@@ -1,5 +1,5 @@
 // Room for what frames hand out.
-ghost use Rattle.std.specs.Prelude.{◌≡◌, ◌≤◌, [], length, All, IfOk, OnOk, vec_capacity};
+ghost use Rattle.std.specs.Prelude.{◌≡◌, ◌≤◌, [], length, All, IfOk, vec_capacity};
 ghost use Rattle.proof_frames.specs.Rooms.{HasTreeRooms, HasRooms};
 
 use mersenne_field::Fe;

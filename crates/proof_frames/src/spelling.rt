@@ -1,5 +1,5 @@
 // Values as the bytes of a payload, and trees from them.
-ghost use Rattle.std.specs.Prelude.{◌≡◌, ℕ, List, ◌+◌, ◌*◌, ◌≤◌, ◌++◌, ◌∷◌, [], length, map, flat_map, All, OnOk, vec_len, vec_capacity};
+ghost use Rattle.std.specs.Prelude.{◌≡◌, ℕ, List, ◌+◌, ◌*◌, ◌≤◌, ◌++◌, ◌∷◌, [], length, flat_map, All, OnOk, vec_capacity};
 ghost use Rattle.zk_model.specs.Bits.{from_bit};
 ghost use Rattle.zk_model.specs.Bytes.{element_bytes, AreBothBytes};
 ghost use Rattle.zk_model.specs.Field.{IsElement};

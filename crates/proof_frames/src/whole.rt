@@ -1,6 +1,5 @@
 // Frames from the bytes that are held.
-ghost use Rattle.std.specs.Prelude.{◌≡◌, ℕ, ◌+◌, ◌*◌, ◌≤◌, ◌<◌, length, take, drop, get_or, OnOk, vec_len, vec_capacity, [], ◌++◌};
-ghost use Rattle.std.specs.Int.{w32, w64, to_le_bytes, from_le_bytes};
+ghost use Rattle.std.specs.Prelude.{◌≡◌, ℕ, ◌*◌, ◌≤◌, ◌<◌, length, vec_capacity, []};
 ghost use Rattle.zk_model.specs.Frames as model;
 ghost use Rattle.proof_frames.specs.Frames.{frame_value, flattened, digest_in, hello_in, grant_or_refusal_in, verdict_in};
 ghost use Rattle.proof_frames.specs.Holding.{bytes_of, Holds};
