@@ -204,7 +204,7 @@ impl<'a> VerifierCore<'a> {
         self.advance(&OneThread, alloc, frame)
     }
 
-    /// Does the same, and has so many workers for the rounds of all units and for the check of products.
+    /// Does the same, and has so many workers for the rounds of all units.
     ///
     /// # Errors
     ///
@@ -229,7 +229,7 @@ impl<'a> VerifierCore<'a> {
         self.advance(&Fan::new(rt, workers), alloc, frame)
     }
 
-    /// Does the same, and has the rounds of all units and the check of products done so.
+    /// Does the same, and has the rounds of all units done so.
     fn advance<H: Workers>(
         &mut self,
         workers: &H,
