@@ -25,8 +25,8 @@ use wire_auth::{ProverWalk, VerifierWalk};
 use zk_model::Span;
 
 /// What does the rounds of all units of a span, the prover's pairs and the verifier's replies and keys, and the sums of products along
-/// a walk. What comes out is the same whoever does it. Sums are made on the caller's own thread, as the walk gives products: it takes
-/// longer than they do.
+/// a walk. What comes out is the same whoever does it. Sums are made on the caller's own thread, as the walk gives products: the
+/// walk takes longer than they do.
 pub trait Workers {
     /// What a call needs besides: nothing on one thread, and of many that they may share what makes them.
     ghost is_ready: { Self → Type 0 };
