@@ -1,15 +1,25 @@
 -- Commands as what they ask for.
-use Rattle.std.specs.Prelude.{ℕ, ◌≤◌, String, string_bytes}
+use Rattle.std.specs.Prelude.{ℕ, ◌≤◌, Bool, String, Vec, string_bytes}
 use Rattle.std.specs.Option.{option_map}
 use Rattle.std.specs.declared.alloc.Global.{Global}
 use Rattle.zk_model.specs.Files.{AreParams}
-use Rattle.command_words.specs.Words.{Ask, ServeOptions, audit_ask, deal_ask, eval_ask, migrate_ask, prove_ask, rehearse_ask, serve_ask, serve_many_ask, serve_options, status_ask}
-use Rattle.command_words.specs.BitWords.{BitsAsk, said, named}
+use Rattle.command_words.specs.Words.{Ask, AuditAsk, DealAsk, EvalAsk, MigrateAsk, ProveAsk, RehearseAsk, ServeAsk, ServeManyAsk, ServeOptions, StatusAsk}
+use Rattle.command_words.specs.Words.{audit_ask, deal_ask, eval_ask, migrate_ask, prove_ask, rehearse_ask, serve_ask, serve_many_ask, serve_options, status_ask}
+use Rattle.command_words.specs.BitWords.{Bits, BitsAsk, said, named}
 use Rattle.command_words.specs.declared.bits.BitsWord.{BitsWord}
 use Rattle.command_words.specs.declared.bits.BitsWord.TheVariants.{Said, Named}
 use Rattle.command_words.specs.declared.asks.Ask.{Ask as AskOf}
 use Rattle.command_words.specs.declared.asks.Ask.TheVariants.{Rehearse, Generate, Eval, Deal, Serve, ServeMany, Prove, Audit, Migrate, Status}
+use Rattle.command_words.specs.declared.asks.RehearseAsk.{RehearseAsk as RehearseAskOf}
+use Rattle.command_words.specs.declared.asks.EvalAsk.{EvalAsk as EvalAskOf}
+use Rattle.command_words.specs.declared.asks.DealAsk.{DealAsk as DealAskOf}
+use Rattle.command_words.specs.declared.asks.ServeAsk.{ServeAsk as ServeAskOf}
+use Rattle.command_words.specs.declared.asks.ServeManyAsk.{ServeManyAsk as ServeManyAskOf}
 use Rattle.command_words.specs.declared.asks.ServeOptions.{ServeOptions as ServeOptionsOf}
+use Rattle.command_words.specs.declared.asks.ProveAsk.{ProveAsk as ProveAskOf}
+use Rattle.command_words.specs.declared.asks.AuditAsk.{AuditAsk as AuditAskOf}
+use Rattle.command_words.specs.declared.asks.MigrateAsk.{MigrateAsk as MigrateAskOf}
+use Rattle.command_words.specs.declared.asks.StatusAsk.{StatusAsk as StatusAskOf}
 use Rattle.command_words.specs.declared.asks.TheConstants.{MAX_SESSIONS, MAX_TIMEOUT}
 use Rattle.zk_model.specs.declared.limits.TheConstants.{MAX_GENERATED_GATES, MAX_PASSES, MAX_SECTION_LENGTH}
 
@@ -23,33 +33,62 @@ named_options options =
     serve_options options.sessions options.workers options.section options.timeout
     (option_map (λ logs. string_bytes logs) options.logs) options.follow
 
--- the bits that a word gives
+-- the bits that a word gives, and those that are known
 abbrev pub bits_ask : BitsWord → BitsAsk
 bits_ask (Said bits) = said bits.items
 bits_ask (Named name) = named (string_bytes name)
 
--- what a command asks for, where each of its bits is given so
+abbrev pub known_bits : Vec Bool Global → Bits
+known_bits bits = bits.items
+
+-- what each command asks for, where each of its bits is given so
+abbrev pub rehearse_of : {B C : Type 0} → (B → C) → RehearseAskOf (String Global) B → RehearseAsk C
+rehearse_of given ask =
+    rehearse_ask (string_bytes ask.circuit) (given ask.public) (given ask.bits) ask.kind ask.section
+
+abbrev pub eval_of : {B C : Type 0} → (B → C) → EvalAskOf (String Global) B → EvalAsk C
+eval_of given ask = eval_ask (string_bytes ask.circuit) (given ask.bits)
+
+abbrev pub deal_of : DealAskOf (String Global) → DealAsk
+deal_of ask = deal_ask (string_bytes ask.name) ask.params
+
+abbrev pub serve_of : {B C : Type 0} → (B → C) → ServeAskOf (String Global) B → ServeAsk C
+serve_of given ask =
+    serve_ask (string_bytes ask.address) (string_bytes ask.file) (string_bytes ask.circuit) (given ask.public)
+    (given ask.outputs) (named_options ask.options)
+
+abbrev pub serve_many_of : ServeManyAskOf (String Global) (String Global) → ServeManyAsk
+serve_many_of ask =
+    serve_many_ask (string_bytes ask.address) (string_bytes ask.file) (string_bytes ask.statements)
+    (named_options ask.options)
+
+abbrev pub prove_of : {B C : Type 0} → (B → C) → ProveAskOf (String Global) B → ProveAsk C
+prove_of given ask =
+    prove_ask (string_bytes ask.address) (string_bytes ask.file) (string_bytes ask.circuit) (given ask.public)
+    (given ask.bits) (given ask.outputs) ask.timeout
+
+abbrev pub audit_of : {B C : Type 0} → (B → C) → AuditAskOf (String Global) B → AuditAsk C
+audit_of given ask =
+    audit_ask (string_bytes ask.circuit) (given ask.public) (given ask.outputs) (string_bytes ask.prover)
+    (string_bytes ask.verifier) (string_bytes ask.log)
+
+abbrev pub migrate_of : MigrateAskOf (String Global) → MigrateAsk
+migrate_of ask = migrate_ask ask.side (string_bytes ask.file)
+
+abbrev pub status_of : StatusAskOf (String Global) → StatusAsk
+status_of ask = status_ask (string_bytes ask.file) (option_map (λ name. string_bytes name) ask.circuit)
+
 abbrev pub ask_of : {B C : Type 0} → (B → C) → Command B → Ask C
-ask_of given (Rehearse ask) =
-    Rehearse (rehearse_ask (string_bytes ask.circuit) (given ask.public) (given ask.bits) ask.kind ask.section)
+ask_of given (Rehearse ask) = Rehearse (rehearse_of given ask)
 ask_of given (Generate ask) = Generate ask
-ask_of given (Eval ask) = Eval (eval_ask (string_bytes ask.circuit) (given ask.bits))
-ask_of given (Deal ask) = Deal (deal_ask (string_bytes ask.name) ask.params)
-ask_of given (Serve ask) =
-    Serve (serve_ask (string_bytes ask.address) (string_bytes ask.file) (string_bytes ask.circuit) (given ask.public)
-    (given ask.outputs) (named_options ask.options))
-ask_of given (ServeMany ask) =
-    ServeMany (serve_many_ask (string_bytes ask.address) (string_bytes ask.file) (string_bytes ask.statements)
-    (named_options ask.options))
-ask_of given (Prove ask) =
-    Prove (prove_ask (string_bytes ask.address) (string_bytes ask.file) (string_bytes ask.circuit) (given ask.public)
-    (given ask.bits) (given ask.outputs) ask.timeout)
-ask_of given (Audit ask) =
-    Audit (audit_ask (string_bytes ask.circuit) (given ask.public) (given ask.outputs) (string_bytes ask.prover)
-    (string_bytes ask.verifier) (string_bytes ask.log))
-ask_of given (Migrate ask) = Migrate (migrate_ask ask.side (string_bytes ask.file))
-ask_of given (Status ask) =
-    Status (status_ask (string_bytes ask.file) (option_map (λ name. string_bytes name) ask.circuit))
+ask_of given (Eval ask) = Eval (eval_of given ask)
+ask_of given (Deal ask) = Deal (deal_of ask)
+ask_of given (Serve ask) = Serve (serve_of given ask)
+ask_of given (ServeMany ask) = ServeMany (serve_many_of ask)
+ask_of given (Prove ask) = Prove (prove_of given ask)
+ask_of given (Audit ask) = Audit (audit_of given ask)
+ask_of given (Migrate ask) = Migrate (migrate_of ask)
+ask_of given (Status ask) = Status (status_of ask)
 
 -- a section has so many products
 pub record IsSectionSize (section : ℕ) : Type 0 where

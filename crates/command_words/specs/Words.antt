@@ -76,7 +76,7 @@ serve_ask address file circuit public outputs options =
     record { address = address; file = file; circuit = circuit; public = public; outputs = outputs; options = options }
 
 abbrev pub ServeManyAsk : Type 0
-ServeManyAsk = ServeManyAskOf (List ℕ)
+ServeManyAsk = ServeManyAskOf (List ℕ) (List ℕ)
 
 abbrev pub serve_many_ask : List ℕ → List ℕ → List ℕ → ServeOptions → ServeManyAsk
 serve_many_ask address file statements options =

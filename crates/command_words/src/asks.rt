@@ -66,12 +66,13 @@ pub struct ServeAsk<T, B> {
     pub options: ServeOptions<T>,
 }
 
-/// A verifier that serves several statements: where provers connect, its file, and the file of the statements.
+/// A verifier that serves several statements: where provers connect, its file, and the statements: the file that names them, or
+/// what is made of that.
 #[derive(Debug, Drop)]
-pub struct ServeManyAsk<T> {
+pub struct ServeManyAsk<T, S = T> {
     pub address: T,
     pub file: T,
-    pub statements: T,
+    pub statements: S,
     pub options: ServeOptions<T>,
 }
 
