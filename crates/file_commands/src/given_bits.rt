@@ -3,7 +3,7 @@ ghost use Rattle.std.specs.Prelude.{◌≡◌, ◌++◌, IfOk, IfErr, OnOk};
 ghost use Rattle.std.specs.List.{prefix_len};
 ghost use Rattle.zk_model.specs.Bits.{digits_of};
 ghost use Rattle.zk_port.specs.Changes.{change};
-ghost use Rattle.command_words.specs.Commands.{IsWithinLimits, ask_of, bits_ask};
+ghost use Rattle.command_words.specs.Commands.{IsWithinLimits, ask_of, bits_ask, known_bits};
 ghost use Rattle.command_words.specs.BitWords.{named};
 ghost use Rattle.file_commands.specs.BitsTexts.{SaysBits, wanted_bits, is_end};
 ghost use Rattle.file_commands.specs.Effects.{OnlyLoads, IsName};
@@ -15,6 +15,13 @@ use bristol_reader::Circuit;
 use command_words::{Ask, AuditAsk, BitsWord, Command, EvalAsk, ProveAsk, RehearseAsk, ServeAsk};
 use std::alloc::{AllocError, Global};
 use zk_port::Shelf;
+
+/// The record of what is asked for, with these known bits in place of those that words say.
+macro_rules! known {
+    ($record:ident; $ask:ident; $($kept:ident),*; $($bits:ident),*) => {
+        $record { $($kept: $ask.$kept,)* $($bits),* }
+    };
+}
 
 /// What the text of a file of bits says.
 #[derive(Debug, Drop)]
@@ -146,9 +153,9 @@ fn file_bits<F: Shelf>(
 fn word_bits<F: Shelf>(
     alloc: Global,
     shelf: &mut F,
-    circuit: &str,
-    wanted: WantedBits<'_>,
     word: BitsWord,
+    wanted: WantedBits<'_>,
+    circuit: &str,
 ) -> Result<Vec<bool>, Refusal>
     ensures given { IfOk result (λ bits. AreGiven (F.state shelf.old).told (bits_ask word) bits.items) }
     ensures quiet { OnOk result (F.state shelf.new ≡ F.state shelf.old) }
@@ -167,9 +174,9 @@ fn word_bits<F: Shelf>(
 fn input_bits<F: Shelf>(
     alloc: Global,
     shelf: &mut F,
-    circuit: &str,
     public: BitsWord,
     bits: BitsWord,
+    circuit: &str,
 ) -> Result<(Vec<bool>, Vec<bool>), Refusal>
     ensures public { IfOk result (λ known.
         AreGiven (F.state shelf.old).told (bits_ask public) known.0.items) }
@@ -181,8 +188,8 @@ fn input_bits<F: Shelf>(
     ensures kept { OnlyLoads (IsWordsName circuit.now (bits_ask public) (bits_ask bits))
         (change (F.state shelf.old) (F.state shelf.new)) }
 {
-    let public = word_bits(alloc, shelf, circuit, WantedBits::Public, public)?;
-    let bits = word_bits(alloc, shelf, circuit, WantedBits::Private(&public), bits)?;
+    let public = word_bits(alloc, shelf, public, WantedBits::Public, circuit)?;
+    let bits = word_bits(alloc, shelf, bits, WantedBits::Private(&public), circuit)?;
     Ok((public, bits))
 }
 
@@ -190,9 +197,9 @@ fn input_bits<F: Shelf>(
 fn claimed_bits<F: Shelf>(
     alloc: Global,
     shelf: &mut F,
-    circuit: &str,
     public: BitsWord,
     outputs: BitsWord,
+    circuit: &str,
 ) -> Result<(Vec<bool>, Vec<bool>), Refusal>
     ensures public { IfOk result (λ known.
         AreGiven (F.state shelf.old).told (bits_ask public) known.0.items) }
@@ -204,8 +211,8 @@ fn claimed_bits<F: Shelf>(
     ensures kept { OnlyLoads (IsWordsName circuit.now (bits_ask public) (bits_ask outputs))
         (change (F.state shelf.old) (F.state shelf.new)) }
 {
-    let public = word_bits(alloc, shelf, circuit, WantedBits::Public, public)?;
-    let outputs = word_bits(alloc, shelf, circuit, WantedBits::Outputs, outputs)?;
+    let public = word_bits(alloc, shelf, public, WantedBits::Public, circuit)?;
+    let outputs = word_bits(alloc, shelf, outputs, WantedBits::Outputs, circuit)?;
     Ok((public, outputs))
 }
 
@@ -220,9 +227,9 @@ pub fn read_given<F: Shelf>(
     command: Command<BitsWord>,
 ) -> Result<Command<Vec<bool>>, Refusal>
     requires limits { IsWithinLimits command }
-    ensures given { IfOk result (λ known. IsAskGiven (F.state shelf.old).told
-        (ask_of bits_ask command) (ask_of (λ v. v.items) known)) }
-    ensures limits { IfOk result (λ known. IsWithinLimits known) }
+    ensures given { IfOk result (λ found. IsAskGiven (F.state shelf.old).told
+        (ask_of bits_ask command) (ask_of known_bits found)) }
+    ensures limits { IfOk result (λ found. IsWithinLimits found) }
     ensures quiet { OnOk result (F.state shelf.new ≡ F.state shelf.old) }
     ensures stop { IfErr result (GivenStop (ask_of bits_ask command)
         (change (F.state shelf.old) (F.state shelf.new))) }
@@ -230,93 +237,44 @@ pub fn read_given<F: Shelf>(
         (change (F.state shelf.old) (F.state shelf.new)) }
 {
     match command {
-        Ask::Rehearse(
-            RehearseAsk {
-                circuit,
-                public,
-                bits,
-                kind,
-                section,
-            },
-        ) => {
-            let (public, bits) = input_bits(alloc, shelf, &circuit, public, bits)?;
-            Ok(Ask::Rehearse(RehearseAsk {
-                circuit,
-                public,
-                bits,
-                kind,
-                section,
-            }))
+        Ask::Rehearse(ask) => {
+            let (public, bits) = input_bits(alloc, shelf, ask.public, ask.bits, &ask.circuit)?;
+            Ok(Ask::Rehearse(known!(RehearseAsk; ask; circuit, kind, section; public, bits)))
         }
         Ask::Generate(ask) => Ok(Ask::Generate(ask)),
-        Ask::Eval(EvalAsk { circuit, bits }) => {
-            let bits = word_bits(alloc, shelf, &circuit, WantedBits::Private(&[]), bits)?;
-            Ok(Ask::Eval(EvalAsk { circuit, bits }))
+        Ask::Eval(ask) => {
+            let wanted = WantedBits::Private(&[]);
+            let bits = word_bits(alloc, shelf, ask.bits, wanted, &ask.circuit)?;
+            Ok(Ask::Eval(known!(EvalAsk; ask; circuit; bits)))
         }
         Ask::Deal(ask) => Ok(Ask::Deal(ask)),
-        Ask::Serve(
-            ServeAsk {
-                address,
-                file,
-                circuit,
-                public,
-                outputs,
-                options,
-            },
-        ) => {
-            let (public, outputs) = claimed_bits(alloc, shelf, &circuit, public, outputs)?;
-            Ok(Ask::Serve(ServeAsk {
-                address,
-                file,
-                circuit,
-                public,
-                outputs,
-                options,
-            }))
+        Ask::Serve(ask) => {
+            let (public, outputs) = claimed_bits(
+                alloc,
+                shelf,
+                ask.public,
+                ask.outputs,
+                &ask.circuit,
+            )?;
+            Ok(Ask::Serve(known!(ServeAsk; ask; address, file, circuit, options; public, outputs)))
         }
         Ask::ServeMany(ask) => Ok(Ask::ServeMany(ask)),
-        Ask::Prove(
-            ProveAsk {
-                address,
-                file,
-                circuit,
-                public,
-                bits,
-                outputs,
-                timeout,
-            },
-        ) => {
-            let (public, bits) = input_bits(alloc, shelf, &circuit, public, bits)?;
-            let outputs = word_bits(alloc, shelf, &circuit, WantedBits::Outputs, outputs)?;
-            Ok(Ask::Prove(ProveAsk {
-                address,
-                file,
-                circuit,
-                public,
-                bits,
-                outputs,
-                timeout,
-            }))
+        Ask::Prove(ask) => {
+            let (public, bits) = input_bits(alloc, shelf, ask.public, ask.bits, &ask.circuit)?;
+            let outputs = word_bits(alloc, shelf, ask.outputs, WantedBits::Outputs, &ask.circuit)?;
+            Ok(Ask::Prove(
+                known!(ProveAsk; ask; address, file, circuit, timeout; public, bits, outputs),
+            ))
         }
-        Ask::Audit(
-            AuditAsk {
-                circuit,
-                public,
-                outputs,
-                prover,
-                verifier,
-                log,
-            },
-        ) => {
-            let (public, outputs) = claimed_bits(alloc, shelf, &circuit, public, outputs)?;
-            Ok(Ask::Audit(AuditAsk {
-                circuit,
-                public,
-                outputs,
-                prover,
-                verifier,
-                log,
-            }))
+        Ask::Audit(ask) => {
+            let (public, outputs) = claimed_bits(
+                alloc,
+                shelf,
+                ask.public,
+                ask.outputs,
+                &ask.circuit,
+            )?;
+            Ok(Ask::Audit(known!(AuditAsk; ask; circuit, prover, verifier, log; public, outputs)))
         }
         Ask::Migrate(ask) => Ok(Ask::Migrate(ask)),
         Ask::Status(ask) => Ok(Ask::Status(ask)),
