@@ -4,6 +4,8 @@ ghost use Rattle.command_words.specs.Rows.{named, row_at, row_of};
 
 use crate::asks::{MAX_SESSIONS, MAX_TIMEOUT};
 use crate::help;
+use Need::{Always, Default, Optional};
+use WordKind::{Bits, Number, Side, Text};
 use zk_model::{
     MAX_BASE, MAX_DEALT_UNITS, MAX_GENERATED_GATES, MAX_HEIGHT, MAX_PASSES, MAX_SECTION_LENGTH,
     MAX_TREES,
@@ -46,89 +48,61 @@ pub type TableColumn = Column<&'static str>;
 /// A row of the table.
 pub type TableRow = Row<&'static str, &'static [TableColumn], &'static [&'static str]>;
 
-pub const ADDRESS: TableColumn = Column("ADDRESS", WordKind::Text, Need::Always);
+pub const ADDRESS: TableColumn = Column("ADDRESS", Text, Always);
 
-pub const BITS: TableColumn = Column("BITS", WordKind::Bits, Need::Always);
+pub const BITS: TableColumn = Column("BITS", Bits, Always);
 
-pub const CIRCUIT: TableColumn = Column("CIRCUIT", WordKind::Text, Need::Always);
+pub const CIRCUIT: TableColumn = Column("CIRCUIT", Text, Always);
 
-pub const FILE: TableColumn = Column("FILE", WordKind::Text, Need::Always);
+pub const FILE: TableColumn = Column("FILE", Text, Always);
 
-pub const LOG: TableColumn = Column("LOG", WordKind::Text, Need::Always);
+pub const LOG: TableColumn = Column("LOG", Text, Always);
 
-pub const NAME: TableColumn = Column("NAME", WordKind::Text, Need::Always);
+pub const NAME: TableColumn = Column("NAME", Text, Always);
 
-pub const OUTPUTS: TableColumn = Column("OUTPUTS", WordKind::Bits, Need::Always);
+pub const OUTPUTS: TableColumn = Column("OUTPUTS", Bits, Always);
 
-pub const PROVER_FILE: TableColumn = Column("PROVERFILE", WordKind::Text, Need::Always);
+pub const PROVER_FILE: TableColumn = Column("PROVERFILE", Text, Always);
 
-pub const SIDE: TableColumn = Column("SIDE", WordKind::Side, Need::Always);
+pub const SIDE: TableColumn = Column("SIDE", Side, Always);
 
-pub const STATEMENTS: TableColumn = Column("STATEMENTS", WordKind::Text, Need::Always);
+pub const STATEMENTS: TableColumn = Column("STATEMENTS", Text, Always);
 
-pub const VERIFIER_FILE: TableColumn = Column("VERIFIERFILE", WordKind::Text, Need::Always);
+pub const VERIFIER_FILE: TableColumn = Column("VERIFIERFILE", Text, Always);
 
-pub const SOME_BITS: TableColumn = Column("BITS", WordKind::Bits, Need::Optional);
+pub const SOME_BITS: TableColumn = Column("BITS", Bits, Optional);
 
-pub const SOME_CIRCUIT: TableColumn = Column("CIRCUIT", WordKind::Text, Need::Optional);
+pub const SOME_CIRCUIT: TableColumn = Column("CIRCUIT", Text, Optional);
 
-pub const BASE: TableColumn = Column(
-    "base",
-    WordKind::Number(10, MAX_BASE as u64),
-    Need::Optional,
-);
+pub const BASE: TableColumn = Column("base", Number(10, MAX_BASE as u64), Optional);
 
-pub const GATES: TableColumn = Column(
-    "gates",
-    WordKind::Number(1, MAX_GENERATED_GATES as u64),
-    Need::Optional,
-);
+pub const GATES: TableColumn = Column("gates", Number(1, MAX_GENERATED_GATES as u64), Optional);
 
-pub const HEIGHT: TableColumn = Column(
-    "height",
-    WordKind::Number(1, MAX_HEIGHT as u64),
-    Need::Optional,
-);
+pub const HEIGHT: TableColumn = Column("height", Number(1, MAX_HEIGHT as u64), Optional);
 
-pub const LOGS: TableColumn = Column("logs", WordKind::Text, Need::Optional);
+pub const LOGS: TableColumn = Column("logs", Text, Optional);
 
-pub const NUMBER: TableColumn = Column("number", WordKind::Number(0, u64::MAX), Need::Optional);
+pub const NUMBER: TableColumn = Column("number", Number(0, u64::MAX), Optional);
 
-pub const PUBLIC: TableColumn = Column("public", WordKind::Bits, Need::Default("none"));
+pub const PUBLIC: TableColumn = Column("public", Bits, Default("none"));
 
 pub const SECTION: TableColumn = Column(
     "section",
-    WordKind::Number(1, MAX_SECTION_LENGTH as u64),
-    Need::Default("1048576"),
+    Number(1, MAX_SECTION_LENGTH as u64),
+    Default("1048576"),
 );
 
-pub const SESSIONS: TableColumn = Column(
-    "sessions",
-    WordKind::Number(1, MAX_SESSIONS as u64),
-    Need::Always,
-);
+pub const SESSIONS: TableColumn = Column("sessions", Number(1, MAX_SESSIONS as u64), Always);
 
-pub const SOME_PUBLIC: TableColumn = Column("public", WordKind::Bits, Need::Optional);
+pub const SOME_PUBLIC: TableColumn = Column("public", Bits, Optional);
 
-pub const TIMEOUT: TableColumn = Column(
-    "timeout",
-    WordKind::Number(1, MAX_TIMEOUT as u64),
-    Need::Default("120"),
-);
+pub const TIMEOUT: TableColumn = Column("timeout", Number(1, MAX_TIMEOUT as u64), Default("120"));
 
-pub const TREES: TableColumn = Column(
-    "trees",
-    WordKind::Number(1, MAX_TREES as u64),
-    Need::Optional,
-);
+pub const TREES: TableColumn = Column("trees", Number(1, MAX_TREES as u64), Optional);
 
-pub const UNITS: TableColumn = Column("units", WordKind::Number(1, MAX_DEALT_UNITS), Need::Always);
+pub const UNITS: TableColumn = Column("units", Number(1, MAX_DEALT_UNITS), Always);
 
-pub const WORKERS: TableColumn = Column(
-    "workers",
-    WordKind::Number(1, MAX_PASSES as u64),
-    Need::Default("4"),
-);
+pub const WORKERS: TableColumn = Column("workers", Number(1, MAX_PASSES as u64), Default("4"));
 
 pub const EXTENDED: &str = "extended";
 
