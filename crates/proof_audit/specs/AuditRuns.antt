@@ -13,7 +13,7 @@ use Rattle.zk_model.specs.declared.Side.TheVariants.{Prover, Verifier}
 use Rattle.zk_port.specs.Files.{Files}
 use Rattle.command_words.specs.BitWords.{Bits}
 use Rattle.command_words.specs.BitWords.{bits_word}
-use Rattle.command_words.specs.Words.{AuditAsk, audit_ask}
+use Rattle.command_words.specs.Words.{AuditAsk}
 use Rattle.dealer_files.specs.Faults.{IsDealtFile}
 use Rattle.proof_audit.specs.Audits.{AuditFinds, AuditCause}
 use Rattle.proof_audit.specs.declared.fault.AuditFault.{AuditFault}
@@ -22,14 +22,8 @@ use Rattle.check_findings.specs.declared.finding.Finding.{Finding}
 use Rattle.check_findings.specs.declared.finding.Finding.TheVariants.{Inputs, ChallengeRoot, KeyRoot, NotAccepted}
 use Rattle.file_commands.specs.Effects.{ShelfChange, Effects, OnlyLoads, HasFailed}
 use Rattle.file_commands.specs.Stops.{PrintsMade, WritesAll, SaysStop, IsOfStop, IsLoaded, HasText, HasCircuit, IsClaim, ClaimStop, FileStop, LoadStop, IsProverFileAt, IsVerifierFileAt}
-use Rattle.proof_audit.specs.declared.audit_command.AuditWords.{AuditWords}
 use Rattle.file_commands.specs.declared.refusal.Refusal.{Refusal}
 use Rattle.file_commands.specs.declared.refusal.Refusal.TheVariants.{NotDealt, BadLog, NoMemory}
-
--- what is asked for
-abbrev pub audit_words : AuditWords → AuditAsk Bits
-audit_words words =
-    audit_ask words.circuit.now words.public.now words.outputs.now words.prover.now words.verifier.now words.log.now
 
 -- ---- what is said
 

@@ -3,8 +3,9 @@ ghost use Rattle.std.specs.Prelude.{◌≡◌, ◌≤◌, ◌++◌, length, code
 ghost use Rattle.std.specs.Fmt.{decimal};
 ghost use Rattle.zk_model.specs.Bytes.{AreBytes};
 ghost use Rattle.zk_port.specs.Changes.{change};
+ghost use Rattle.command_words.specs.Commands.{audit_of, known_bits};
 ghost use Rattle.proof_audit.specs.Audits.{audit_task};
-ghost use Rattle.proof_audit.specs.AuditRuns.{Audits, AuditStop, AreFiles, FindsIn, IsAuditName, audit_refusal, audit_words, coefficients, finding_line, finding_status};
+ghost use Rattle.proof_audit.specs.AuditRuns.{Audits, AuditStop, AreFiles, FindsIn, IsAuditName, audit_refusal, coefficients, finding_line, finding_status};
 ghost use Rattle.file_commands.specs.Effects.{OnlyLoads, effects};
 ghost use Rattle.file_commands.specs.Stops.{PrintsMade};
 
@@ -13,7 +14,7 @@ use crate::fault::AuditFault;
 use crate::laws::{accepted_logs_are_right, one_answer};
 use bristol_reader::one_circuit;
 use check_findings::Finding;
-use command_words::write_bits;
+use command_words::{AuditAsk, write_bits};
 use dealer_files::{ProverFile, VerifierFile};
 use file_commands::{
     ClaimedCircuit, Refusal, load_claimed, load_file, load_prover, load_verifier, say, say_memory,
@@ -22,17 +23,6 @@ use file_commands::{
 use mersenne_field::Fe;
 use std::alloc::{AllocError, Global};
 use zk_port::{Shelf, Sink};
-
-/// What the words of the command name.
-#[derive(Clone, Copy, Debug)]
-pub struct AuditWords<'a> {
-    pub circuit: &'a str,
-    pub public: &'a [bool],
-    pub outputs: &'a [bool],
-    pub prover: &'a str,
-    pub verifier: &'a str,
-    pub log: &'a str,
-}
 
 /// The claim and both dealt files.
 #[derive(Drop)]
@@ -46,24 +36,24 @@ struct AuditedFiles {
 fn load_audited<F: Shelf>(
     alloc: Global,
     shelf: &mut F,
-    words: &AuditWords<'_>,
+    ask: &AuditAsk<String, Vec<bool>>,
 ) -> Result<AuditedFiles, Refusal>
-    ensures files { IfOk result (λ files. AreFiles (F.state shelf.old).told (audit_words words.now)
+    ensures files { IfOk result (λ files. AreFiles (F.state shelf.old).told (audit_of known_bits ask.now)
         files.claimed.circuit files.prover (audit_task files.claimed.circuit files.claimed.digest
-        words.now.public.now words.now.outputs.now files.verifier)) }
+        ask.now.public.items ask.now.outputs.items files.verifier)) }
     ensures digest { IfOk result (λ files. AreBytes 32 files.claimed.digest) }
-    ensures public { IfOk result (λ files. length words.now.public.now ≤ files.claimed.circuit.inputs) }
+    ensures public { IfOk result (λ files. length ask.now.public.items ≤ files.claimed.circuit.inputs) }
     ensures outputs { IfOk result (λ files.
-        length words.now.outputs.now ≡ files.claimed.circuit.outputs) }
-    ensures stop { IfErr result (AuditStop (audit_words words.now)
+        length ask.now.outputs.items ≡ files.claimed.circuit.outputs) }
+    ensures stop { IfErr result (AuditStop (audit_of known_bits ask.now)
         (change (F.state shelf.old) (F.state shelf.new))) }
-    ensures kept { OnlyLoads (IsAuditName (audit_words words.now))
+    ensures kept { OnlyLoads (IsAuditName (audit_of known_bits ask.now))
         (change (F.state shelf.old) (F.state shelf.new)) }
     ensures quiet { OnOk result (F.state shelf.new ≡ F.state shelf.old) }
 {
-    let claimed = load_claimed(alloc, shelf, words.circuit, words.public, words.outputs)?;
-    let prover = load_prover(alloc, shelf, words.prover)?;
-    let verifier = load_verifier(alloc, shelf, words.verifier)?;
+    let claimed = load_claimed(alloc, shelf, &ask.circuit, &ask.public, &ask.outputs)?;
+    let prover = load_prover(alloc, shelf, &ask.prover)?;
+    let verifier = load_verifier(alloc, shelf, &ask.verifier)?;
     Ok(AuditedFiles {
         claimed,
         prover,
@@ -86,16 +76,16 @@ fn refusal_of(fault: AuditFault) -> Refusal
 fn audit_files<F: Shelf>(
     alloc: Global,
     shelf: &mut F,
-    words: &AuditWords<'_>,
+    ask: &AuditAsk<String, Vec<bool>>,
 ) -> Result<Finding, Refusal>
-    ensures found { IfOk result (FindsIn (F.state shelf.old).told (audit_words words.now)) }
-    ensures stop { IfErr result (AuditStop (audit_words words.now)
+    ensures found { IfOk result (FindsIn (F.state shelf.old).told (audit_of known_bits ask.now)) }
+    ensures stop { IfErr result (AuditStop (audit_of known_bits ask.now)
         (change (F.state shelf.old) (F.state shelf.new))) }
-    ensures kept { OnlyLoads (IsAuditName (audit_words words.now))
+    ensures kept { OnlyLoads (IsAuditName (audit_of known_bits ask.now))
         (change (F.state shelf.old) (F.state shelf.new)) }
 {
-    let files = load_audited(alloc, shelf, words)?;
-    let log = load_file(alloc, shelf, words.log)?;
+    let files = load_audited(alloc, shelf, ask)?;
+    let log = load_file(alloc, shelf, &ask.log)?;
     let AuditedFiles {
         claimed,
         prover,
@@ -106,8 +96,8 @@ fn audit_files<F: Shelf>(
         alloc,
         circuit,
         digest,
-        words.public,
-        words.outputs,
+        &ask.public,
+        &ask.outputs,
         &prover,
         &verifier,
         &log,
@@ -190,15 +180,15 @@ pub fn run_audit<F: Shelf, O: Sink>(
     alloc: Global,
     shelf: &mut F,
     out: &mut O,
-    words: &AuditWords<'_>,
+    ask: &AuditAsk<String, Vec<bool>>,
 ) -> u8
-    ensures { Audits (audit_words words.now) (effects result
+    ensures { Audits (audit_of known_bits ask.now) (effects result
         (change (F.state shelf.old) (F.state shelf.new)) (change (O.state out.old) (O.state out.new))) }
 {
     one_circuit();
     accepted_logs_are_right();
     one_answer();
-    match audit_files(alloc, shelf, words) {
+    match audit_files(alloc, shelf, ask) {
         Ok(finding) => say_finding(alloc, out, &finding),
         Err(stop) => say_stop(alloc, out, stop),
     }

@@ -22,7 +22,7 @@ mod seen;
 mod session;
 mod values;
 
-pub use audit_command::{AuditWords, run_audit};
+pub use audit_command::run_audit;
 pub use auditing::audit;
 pub use check_findings::Finding;
 pub use fault::AuditFault;
