@@ -2,8 +2,7 @@
 use Rattle.std.specs.Prelude.{◌≡◌, ◌⊎◌, List, Option}
 use Rattle.zk_port.specs.Files.{Files}
 use Rattle.zk_port.specs.Links.{LinkState}
-use Rattle.command_words.specs.Words.{ServeManyAsk, serve_many_ask}
-use Rattle.command_words.specs.Commands.{named_options}
+use Rattle.command_words.specs.Words.{ServeManyAsk}
 use Rattle.statement_file.specs.Claims.{NamedClaim, HasFault, NamesClaims}
 use Rattle.statement_file.specs.Services.{Service, service_of_many}
 use Rattle.statement_file.specs.declared.fault.StatementFault.TheVariants.{BadLine, Count}
@@ -16,12 +15,6 @@ use Rattle.zk_cli.specs.Runs.{EachNote}
 use Rattle.zk_cli.specs.ServeRuns.{HasServeFailed, IsServable, IsWithHonestProver, Serves}
 use Rattle.zk_cli.specs.declared.finish.Part.{Part}
 use Rattle.zk_cli.specs.declared.finish.Part.TheVariants.{Plain}
-use Rattle.zk_cli.specs.declared.many_command.ManyWords.{ManyWords}
-
--- what is asked for
-abbrev pub many_words : ManyWords → ServeManyAsk
-many_words words =
-    serve_many_ask words.address.now words.file.now words.statements.now (named_options words.options.now)
 
 -- the service of claims that, where a shelf tells, the file of statements names
 abbrev pub IsServiceOfMany : Option Files → ServeManyAsk → Service → Type 0

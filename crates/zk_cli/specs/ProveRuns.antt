@@ -32,22 +32,15 @@ use Rattle.session_prover.specs.declared.note.ProverNote.{ProverNote}
 use Rattle.session_prover.specs.declared.note.ProverOutcome.{ProverOutcome}
 use Rattle.session_prover.specs.declared.note.ProverOutcome.TheVariants as ended
 use Rattle.command_words.specs.BitWords.{Bits}
-use Rattle.command_words.specs.Words.{ProveAsk, prove_ask}
+use Rattle.command_words.specs.Words.{ProveAsk}
 use Rattle.file_commands.specs.ClaimedUnits.{KeepsClaims}
 use Rattle.file_commands.specs.Journals.{IsClaimsFault, HasClaims, DiskChange, IsUntouched, JournalStop, OnlyReads, own_journal}
 use Rattle.file_commands.specs.Effects.{ShelfChange, DoorChange, SinkFailed, Effects, HasFailed, IsDone, OnlyLoads}
 use Rattle.file_commands.specs.Stops.{ConnectStop, PrintsMade, SaysStop, IsOfStop, WritesAll, HasCircuit, HasFewInputs, HasText, IsClaim, CircuitStop, FileStop, IsProverFileAt}
 use Rattle.zk_cli.specs.declared.finish.Part.{Part}
 use Rattle.zk_cli.specs.declared.finish.Part.TheVariants.{Plain, Proved}
-use Rattle.zk_cli.specs.declared.prove_command.ProveWords.{ProveWords}
 use Rattle.file_commands.specs.declared.refusal.Refusal.{Refusal}
 use Rattle.file_commands.specs.declared.refusal.Refusal.TheVariants.{ManyPublic, WrongBits, WrongOutputs, Unsatisfied, NoMemory}
-
--- what is asked for
-abbrev pub prove_words : ProveWords → ProveAsk Bits
-prove_words words =
-    prove_ask words.address.now words.file.now words.circuit.now words.public.now words.bits.now words.outputs.now
-    words.timeout
 
 -- the names of the two files that are loaded
 abbrev pub IsProveName : ProveAsk Bits → List ℕ → Type 0

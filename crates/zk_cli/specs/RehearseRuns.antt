@@ -8,23 +8,18 @@ use Rattle.zk_model.specs.declared.limits.TheConstants.{MAX_UNITS}
 use Rattle.zk_port.specs.Files.{Files}
 use Rattle.command_words.specs.BitWords.{Bits}
 use Rattle.command_words.specs.BitWords.{bits_word}
-use Rattle.command_words.specs.Words.{RehearseAsk, rehearse_ask}
+use Rattle.command_words.specs.Words.{RehearseAsk}
 use Rattle.command_words.specs.declared.asks.GenerateAsk.{GenerateAsk}
 use Rattle.session_rehearsal.specs.Rehearsals.{IsRehearsalOf, IsWrongLength, IsRehearsalTooLarge, EndsWithVerdict}
 use Rattle.session_rehearsal.specs.Rehearsals.{rehearsal_units}
 use Rattle.session_rehearsal.specs.declared.rehearsal.Rehearsal.{Rehearsal}
 use Rattle.file_commands.specs.Effects.{ShelfChange, SinkChange, Effects, OnlyLoads, IsName, HasFailed, SinkFailed}
 use Rattle.file_commands.specs.Stops.{PrintsMade, WritesAll, SaysStop, StatusMeans, HasCircuit, HasFewInputs, IsCircuitReady, CircuitStop}
-use Rattle.zk_cli.specs.declared.rehearse_command.RehearseWords.{RehearseWords}
 use Rattle.zk_cli.specs.declared.finish.Part.{Part}
 use Rattle.zk_cli.specs.declared.finish.Part.TheVariants.{Plain, Rehearsed}
 use Rattle.file_commands.specs.declared.refusal.Refusal.{Refusal}
 use Rattle.file_commands.specs.declared.refusal.Refusal.TheVariants.{ManyPublic, WrongBits, TooLarge, NoMemory}
 use Rattle.circuit_gen.specs.Generated.{generated_bits, generated_circuit}
-
--- what is asked for
-abbrev pub rehearse_words : RehearseWords → RehearseAsk Bits
-rehearse_words words = rehearse_ask words.circuit.now words.public.now words.bits.now words.kind words.section
 
 -- 0 where the verifier accepts
 abbrev pub verdict_status : Verdict → ℕ

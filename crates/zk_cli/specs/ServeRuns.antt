@@ -1,7 +1,9 @@
 -- `serve` and `serve-many`: what is served and said, and what a run of either promises.
-use Rattle.std.specs.Prelude.{◌≡◌, ◌≢◌, ◌⊎◌, ◌+◌, ◌*◌, ◌≤◌, max, ◌++◌, ◌∷◌, ℕ, List, All, AllPairs, Contains, length, Bool, true, false, Option, None, Some, IfSome}
+use Rattle.std.specs.Prelude.{◌≡◌, ◌≢◌, ◌⊎◌, ◌+◌, ◌*◌, ◌≤◌, max, ◌++◌, ◌∷◌, ℕ, List, All, AllPairs, Contains, length, Bool, true, false, Option, None, Some, IfSome, String, string_bytes}
+use Rattle.std.specs.Borrow.{Bor}
 use Rattle.std.specs.List.{AllZip, sum_by}
 use Rattle.std.specs.List.Sorted.{IsNonDecreasingBy}
+use Rattle.std.specs.declared.alloc.Global.{Global}
 use Rattle.zk_model.specs.Circuit.{Circuit}
 use Rattle.zk_model.specs.HonestProver.{ProverTask}
 use Rattle.zk_model.specs.Statement.{Statement}
@@ -27,6 +29,7 @@ use Rattle.session_verifier.specs.Sessions.{IsNote}
 use Rattle.session_verifier.specs.declared.note.SessionNote.{SessionNote}
 use Rattle.session_verifier.specs.declared.note.VerifierOutcome.TheVariants.{Accepted}
 use Rattle.command_words.specs.Commands.{named_options}
+use Rattle.command_words.specs.declared.asks.ServeManyAsk.{ServeManyAsk}
 use Rattle.statement_file.specs.Claims.{NamedClaim}
 use Rattle.statement_file.specs.Services.{Service, service}
 use Rattle.file_commands.specs.Journals.{IsCeilingsFault, LeavesUnits, DiskChange, IsUntouched, JournalStop, KeepsCeiling, OnlyReads, own_journal}
@@ -39,11 +42,10 @@ use Rattle.zk_cli.specs.declared.finish.Part.{Part}
 use Rattle.zk_cli.specs.declared.finish.Part.TheVariants.{Plain, Served}
 use Rattle.file_commands.specs.declared.refusal.Refusal.{Refusal}
 use Rattle.file_commands.specs.declared.refusal.Refusal.TheVariants.{TooLarge, NoMemory}
-use Rattle.zk_cli.specs.declared.serve_command.ServiceWords.{ServiceWords}
 
--- what is asked for
-abbrev pub service_words : ServiceWords → Service
-service_words words = service words.address.now words.file.now words.claims.now (named_options words.options.now)
+-- what is served, of these claims
+abbrev pub service_of : ServeManyAsk (String Global) (Bor (List NamedClaim)) → Service
+service_of ask = service (string_bytes ask.address) (string_bytes ask.file) ask.statements.now (named_options ask.options)
 
 -- the names of the circuits' files; with that of the verifier's, those that are loaded; and with those of logs, all that are asked for
 abbrev pub IsCircuitName : List NamedClaim → List ℕ → Type 0

@@ -1,12 +1,12 @@
 // The claims that are served, and the verifier's file.
-ghost use Rattle.std.specs.Prelude.{◌≡◌, IfOk, IfErr, OnOk};
+ghost use Rattle.std.specs.Prelude.{◌≡◌, IfOk, IfErr, OnOk, string_bytes};
 ghost use Rattle.std.specs.List.{AllZip};
 ghost use Rattle.zk_port.specs.Changes.{change};
 ghost use Rattle.file_commands.specs.Effects.{OnlyLoads, IsName};
 ghost use Rattle.file_commands.specs.Stops.{ClaimStop, IsVerifierFileAt};
-ghost use Rattle.zk_cli.specs.ServeRuns.{IsCircuitName, IsLoadedName, IsStatementOf, LacksClaim, LacksFiles, service_words};
+ghost use Rattle.zk_cli.specs.ServeRuns.{IsCircuitName, IsLoadedName, IsStatementOf, LacksClaim, LacksFiles, service_of};
 
-use crate::serve_command::ServiceWords;
+use crate::serve_command::Service;
 use dealer_files::VerifierFile;
 use file_commands::{ClaimedCircuit, Refusal, load_claimed, load_verifier};
 use session_core::CircuitClaim;
@@ -66,19 +66,19 @@ fn load_claims<F: Shelf>(
 pub fn load_files<F: Shelf>(
     alloc: Global,
     shelf: &mut F,
-    words: &ServiceWords<'_>,
+    service: &Service<'_>,
 ) -> Result<ServiceFiles, Refusal>
     ensures claims { IfOk result (λ files.
-        AllZip (IsStatementOf (F.state shelf.old).told) words.now.claims.now files.claims.items) }
+        AllZip (IsStatementOf (F.state shelf.old).told) service.now.statements.now files.claims.items) }
     ensures file { IfOk result (λ files.
-        IsVerifierFileAt (F.state shelf.old).told words.now.file.now files.file) }
-    ensures stop { IfErr result (LacksFiles (service_words words.now)
+        IsVerifierFileAt (F.state shelf.old).told (string_bytes service.now.file) files.file) }
+    ensures stop { IfErr result (LacksFiles (service_of service.now)
         (change (F.state shelf.old) (F.state shelf.new))) }
-    ensures kept { OnlyLoads (IsLoadedName (service_words words.now))
+    ensures kept { OnlyLoads (IsLoadedName (service_of service.now))
         (change (F.state shelf.old) (F.state shelf.new)) }
     ensures quiet { OnOk result (F.state shelf.new ≡ F.state shelf.old) }
 {
-    let claims = load_claims(alloc, shelf, words.claims)?;
-    let file = load_verifier(alloc, shelf, words.file)?;
+    let claims = load_claims(alloc, shelf, service.statements)?;
+    let file = load_verifier(alloc, shelf, &service.file)?;
     Ok(ServiceFiles { claims, file })
 }

@@ -1,4 +1,7 @@
 // What a run hands back.
+ghost use Rattle.std.specs.Prelude.{◌≡◌};
+ghost use Rattle.zk_cli.specs.declared.finish.Part.TheVariants.{Plain};
+
 use session_prover::ProverNote;
 use session_rehearsal::Rehearsal;
 use session_verifier::SessionNote;
@@ -32,4 +35,47 @@ pub struct Finish<B, D: Door> {
     pub journal: B,
     pub door: D,
     pub part: Part<D::Link>,
+}
+
+/// The disk and the door that a run is given, and hands back.
+#[derive(Drop)]
+pub struct Ports<B, D> {
+    pub journal: B,
+    pub door: D,
+}
+
+impl<B, D: Door> Ports<B, D> {
+    /// The end of a run of this status, which makes nothing beside its lines.
+    pub fn end(self, status: u8) -> Finish<B, D>
+        ensures { result ≡ record {
+          status = status;
+          journal = self.journal;
+          door = self.door;
+          part = Plain;
+        } }
+    {
+        self.end_with(Ending {
+            status,
+            part: Part::Plain,
+        })
+    }
+
+    /// The end of a run whose command ends so.
+    pub fn end_with(self, ending: Ending<D::Link>) -> Finish<B, D>
+        ensures { result ≡ record {
+          status = ending.status;
+          journal = self.journal;
+          door = self.door;
+          part = ending.part;
+        } }
+    {
+        let Ports { journal, door } = self;
+        let Ending { status, part } = ending;
+        Finish {
+            status,
+            journal,
+            door,
+            part,
+        }
+    }
 }

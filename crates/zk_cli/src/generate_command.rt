@@ -20,24 +20,24 @@ use zk_port::{Shelf, Sink};
 fn rehearse_generated<R: Threads + Sync>(
     rt: &R,
     alloc: Global,
-    words: &GenerateAsk,
+    ask: &GenerateAsk,
     seed: &[u8; 32],
 ) -> Result<Rehearsal, Refusal>
-    requires some_gates { 1 ≤ words.now.gates }
-    requires few_gates { words.now.gates ≤ MAX_GENERATED_GATES }
-    requires at_least_one { 1 ≤ words.now.section }
-    requires at_most { words.now.section ≤ MAX_SECTION_LENGTH }
-    ensures rehearsed { IfOk result (IsGenerated words.now seed.now) }
-    ensures stop { IfErr result (GenerateStop words.now) }
+    requires some_gates { 1 ≤ ask.now.gates }
+    requires few_gates { ask.now.gates ≤ MAX_GENERATED_GATES }
+    requires at_least_one { 1 ≤ ask.now.section }
+    requires at_most { ask.now.section ≤ MAX_SECTION_LENGTH }
+    ensures rehearsed { IfOk result (IsGenerated ask.now seed.now) }
+    ensures stop { IfErr result (GenerateStop ask.now) }
 {
-    let Generated { text, bits, .. } = generate(alloc, words.gates, words.number)?;
+    let Generated { text, bits, .. } = generate(alloc, ask.gates, ask.number)?;
     let circuit = match read(alloc, &text) {
         Ok(circuit) => circuit,
         Err(ReadError::Fault(_)) => unreachable!(),
         Err(ReadError::NoMemory) => return Err(Refusal::NoMemory),
     };
     drop(text);
-    let (kind, section) = (words.kind, words.section);
+    let (kind, section) = (ask.kind, ask.section);
     match rehearse(rt, alloc, circuit, &[], &bits, kind, section, seed) {
         Ok(rehearsal) => Ok(rehearsal),
         Err(RehearseFault::WrongLength { .. }) => unreachable!(),
@@ -53,19 +53,19 @@ pub fn run_generate<R: Threads + Sync, F: Shelf, O: Sink, L: Drop>(
     alloc: Global,
     shelf: &mut F,
     out: &mut O,
-    words: &GenerateAsk,
+    ask: &GenerateAsk,
     seed: &[u8; 32],
 ) -> Ending<L>
-    requires some_gates { 1 ≤ words.now.gates }
-    requires few_gates { words.now.gates ≤ MAX_GENERATED_GATES }
-    requires at_least_one { 1 ≤ words.now.section }
-    requires at_most { words.now.section ≤ MAX_SECTION_LENGTH }
+    requires some_gates { 1 ≤ ask.now.gates }
+    requires few_gates { ask.now.gates ≤ MAX_GENERATED_GATES }
+    requires at_least_one { 1 ≤ ask.now.section }
+    requires at_most { ask.now.section ≤ MAX_SECTION_LENGTH }
     ensures kept { shelf.new ≡ shelf.old }
-    ensures generates { Generates words.now seed.now result.part
+    ensures generates { Generates ask.now seed.now result.part
         (effects result.status (change (F.state shelf.old) (F.state shelf.new))
         (change (O.state out.old) (O.state out.new))) }
 {
-    match rehearse_generated(rt, alloc, words, seed) {
+    match rehearse_generated(rt, alloc, ask, seed) {
         Ok(rehearsal) => Ending {
             status: say_rehearsal(alloc, out, &rehearsal),
             part: Part::Rehearsed(rehearsal),

@@ -1,18 +1,18 @@
 // `serve-many ADDRESS FILE STATEMENTS --sessions N [--workers W] [--section G] [--timeout S] [--logs PREFIX] [--follow]`
-ghost use Rattle.std.specs.Prelude.{◌≡◌, false, IfOk, IfErr, OnOk};
+ghost use Rattle.std.specs.Prelude.{◌≡◌, false, IfOk, IfErr, OnOk, string_bytes};
 ghost use Rattle.zk_port.specs.Changes.{change};
-ghost use Rattle.command_words.specs.Commands.{AreServeLimits, named_options};
+ghost use Rattle.command_words.specs.Commands.{AreServeLimits, named_options, serve_many_of};
 ghost use Rattle.command_words.specs.declared.asks.Ask.TheVariants.{ServeMany as serve_many};
 ghost use Rattle.statement_file.specs.Claims.{NamesClaims};
 ghost use Rattle.file_commands.specs.Journals.{IsJournalDisk, disk_change};
 ghost use Rattle.file_commands.specs.Effects.{OnlyLoads, IsName, effects};
 ghost use Rattle.file_commands.specs.Stops.{HasText};
-ghost use Rattle.zk_cli.specs.ManyRuns.{ServesMany, StatementsStop, many_words};
+ghost use Rattle.zk_cli.specs.ManyRuns.{ServesMany, StatementsStop};
 ghost use Rattle.zk_cli.specs.ServedNotes.{GrantsOnceIn, ShowsClaims};
 
-use crate::finish::{Finish, Part};
-use crate::serve_command::{ServiceWords, run_service};
-use command_words::ServeOptions;
+use crate::finish::{Finish, Ports};
+use crate::serve_command::run_service;
+use command_words::ServeManyAsk;
 use file_commands::{Refusal, load_file, say_stop};
 use statement_file::{NamedClaim, StatementError, StatementFault, read_statements};
 use std::alloc::Global;
@@ -20,30 +20,21 @@ use std::sync::Wait;
 use std::thread::Threads;
 use zk_port::{Disk, Door, Shelf, Sink};
 
-/// What the words of the command name.
-#[derive(Clone, Copy, Debug)]
-pub struct ManyWords<'a> {
-    pub address: &'a str,
-    pub file: &'a str,
-    pub statements: &'a str,
-    pub options: &'a ServeOptions<String>,
-}
-
 /// The claims that the file of statements names.
 fn load_statements<F: Shelf>(
     alloc: Global,
     shelf: &mut F,
-    words: &ManyWords<'_>,
+    ask: &ServeManyAsk<String>,
 ) -> Result<Vec<NamedClaim>, Refusal>
-    ensures claims { IfOk result (λ claims. HasText (F.state shelf.old).told words.now.statements.now
+    ensures claims { IfOk result (λ claims. HasText (F.state shelf.old).told (string_bytes ask.now.statements)
         (λ text. NamesClaims text claims.items)) }
-    ensures stop { IfErr result (StatementsStop (many_words words.now)
+    ensures stop { IfErr result (StatementsStop (serve_many_of ask.now)
         (change (F.state shelf.old) (F.state shelf.new))) }
-    ensures kept { OnlyLoads (IsName words.now.statements.now)
+    ensures kept { OnlyLoads (IsName (string_bytes ask.now.statements))
         (change (F.state shelf.old) (F.state shelf.new)) }
     ensures quiet { OnOk result (F.state shelf.new ≡ F.state shelf.old) }
 {
-    let text = load_file(alloc, shelf, words.statements)?;
+    let text = load_file(alloc, shelf, &ask.statements)?;
     match read_statements(alloc, &text) {
         Ok(claims) => Ok(claims),
         Err(StatementError::Fault(StatementFault::BadLine { line })) => {
@@ -62,11 +53,10 @@ pub fn run_serve_many<R, F, D, B, O, E>(
     rt: &R,
     alloc: Global,
     shelf: &mut F,
-    journal: B,
-    door: D,
+    ports: Ports<B, D>,
     out: &mut O,
     notices: &mut E,
-    words: &ManyWords<'_>,
+    ask: ServeManyAsk<String>,
 ) -> Finish<B, D>
 where
     R: Threads + Wait + Sync,
@@ -76,33 +66,27 @@ where
     B: Disk + Drop + Send,
     O: Sink,
     E: Sink + Send,
-    requires disk { IsJournalDisk (B.state journal) }
-    requires limits { AreServeLimits (named_options words.now.options.now) }
-    ensures serves { ServesMany D.Link.state (many_words words.now) result.part
-        (disk_change (B.state journal) (B.state result.journal)) (change (D.state door) (D.state result.door))
+    requires disk { IsJournalDisk (B.state ports.journal) }
+    requires limits { AreServeLimits (named_options ask.options) }
+    ensures serves { ServesMany D.Link.state (serve_many_of ask) result.part
+        (disk_change (B.state ports.journal) (B.state result.journal))
+        (change (D.state ports.door) (D.state result.door))
         (effects result.status
         (change (F.state shelf.old) (F.state shelf.new)) (change (O.state out.old) (O.state out.new))) }
-    ensures headline { ShowsClaims (F.state shelf.old).told (serve_many (many_words words.now)) result.part }
-    ensures once { GrantsOnceIn (F.state shelf.old).told (serve_many (many_words words.now)) result.part
-        (disk_change (B.state journal) (B.state result.journal)) }
-    ensures quiet { words.now.options.now.follow ≡ false → E.state notices.new ≡ E.state notices.old }
+    ensures headline { ShowsClaims (F.state shelf.old).told (serve_many (serve_many_of ask)) result.part }
+    ensures once { GrantsOnceIn (F.state shelf.old).told (serve_many (serve_many_of ask)) result.part
+        (disk_change (B.state ports.journal) (B.state result.journal)) }
+    ensures quiet { ask.options.follow ≡ false → E.state notices.new ≡ E.state notices.old }
 {
-    let claims = match load_statements(alloc, shelf, words) {
+    let claims = match load_statements(alloc, shelf, &ask) {
         Ok(claims) => claims,
-        Err(stop) => {
-            return Finish {
-                status: say_stop(alloc, out, stop),
-                journal,
-                door,
-                part: Part::Plain,
-            };
-        }
+        Err(stop) => return ports.end(say_stop(alloc, out, stop)),
     };
-    let named = ServiceWords {
-        address: words.address,
-        file: words.file,
-        claims: &claims,
-        options: words.options,
+    let service = ServeManyAsk {
+        address: ask.address,
+        file: ask.file,
+        statements: claims.as_slice(),
+        options: ask.options,
     };
-    run_service(rt, alloc, shelf, journal, door, out, notices, &named)
+    run_service(rt, alloc, shelf, ports, out, notices, &service)
 }

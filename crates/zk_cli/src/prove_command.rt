@@ -1,20 +1,22 @@
 // `prove ADDRESS FILE CIRCUIT BITS OUTPUTS [--public BITS]`
-ghost use Rattle.std.specs.Prelude.{◌≡◌, ◌≤◌, ◌++◌, IfOk, IfErr, OnOk, None, IfSome, drop, length};
+ghost use Rattle.std.specs.Prelude.{◌≡◌, ◌≤◌, ◌++◌, IfOk, IfErr, OnOk, None, IfSome, drop, length, string_bytes};
 ghost use Rattle.zk_model.specs.Circuit.{Circuit, AreWireBits, output_wire};
 ghost use Rattle.zk_model.specs.declared.Side.TheVariants.{Prover};
 ghost use Rattle.zk_port.specs.Changes.{change};
+ghost use Rattle.command_words.specs.Commands.{known_bits, prove_of};
 ghost use Rattle.file_commands.specs.Journals.{IsJournalDisk, disk_change};
-ghost use Rattle.zk_cli.specs.ProveRuns.{BeginningStop, HoldsAsked, HoldsSession, LacksProof, Proves, ProveStop, prove_words};
+ghost use Rattle.zk_cli.specs.ProveRuns.{BeginningStop, HoldsAsked, HoldsSession, LacksProof, Proves, ProveStop};
 ghost use Rattle.zk_cli.specs.ProveRuns.{BitDiffersFirst, HasWitness, IsProveName, WiresStop, WitnessStop};
 ghost use Rattle.file_commands.specs.Stops.{connect_refusal, FileStop, IsProverFileAt};
 ghost use Rattle.file_commands.specs.Effects.{OnlyLoads, IsName, effects};
 
-use crate::finish::{Finish, Part};
+use crate::finish::{Ending, Finish, Part, Ports};
 use crate::proved_line::say_proved;
 use bool_eval::{EvalFault, eval_wires, output_bits};
 use bristol_reader::{Circuit, one_circuit};
 use circuit_laws::{bits_solve, one_outcome};
 use claim_store::claims_start_again;
+use command_words::ProveAsk;
 use dealer_files::ProverFile;
 use file_commands::{
     Refusal, check_public, load_file, load_prover, open_claims, read_circuit, say_stop,
@@ -26,18 +28,6 @@ use sha2::{Digest, Sha256};
 use std::alloc::{AllocError, Global};
 use std::thread::Threads;
 use zk_port::{Access, Disk, Door, PortFault, Shelf, Sink};
-
-/// What the words of the command name.
-#[derive(Clone, Copy, Debug)]
-pub struct ProveWords<'a> {
-    pub address: &'a str,
-    pub file: &'a str,
-    pub circuit: &'a str,
-    pub public: &'a [bool],
-    pub bits: &'a [bool],
-    pub outputs: &'a [bool],
-    pub timeout: u32,
-}
 
 /// A claim, and the values of the inputs that prove it.
 #[derive(Drop)]
@@ -70,23 +60,27 @@ fn all_inputs(alloc: Global, public: &[bool], bits: &[bool]) -> Result<Vec<bool>
 }
 
 /// The bits of all wires of a circuit, which has inputs for the bits that the words name.
-fn wires_at(alloc: Global, circuit: &Circuit, words: &ProveWords<'_>) -> Result<Vec<bool>, Refusal>
+fn wires_at(
+    alloc: Global,
+    circuit: &Circuit,
+    ask: &ProveAsk<String, Vec<bool>>,
+) -> Result<Vec<bool>, Refusal>
     ensures wires { IfOk result (λ wires.
-        AreWireBits circuit.now (words.now.public.now ++ words.now.bits.now) wires.items) }
-    ensures inputs { OnOk result (length (words.now.public.now ++ words.now.bits.now) ≡ circuit.now.inputs) }
-    ensures few { OnOk result (length words.now.public.now ≤ circuit.now.inputs) }
-    ensures stop { IfErr result (WiresStop circuit.now (prove_words words.now)) }
+        AreWireBits circuit.now (ask.now.public.items ++ ask.now.bits.items) wires.items) }
+    ensures inputs { OnOk result (length (ask.now.public.items ++ ask.now.bits.items) ≡ circuit.now.inputs) }
+    ensures few { OnOk result (length ask.now.public.items ≤ circuit.now.inputs) }
+    ensures stop { IfErr result (WiresStop circuit.now (prove_of known_bits ask.now)) }
 {
-    check_public(circuit, words.public)?;
-    let need = circuit.inputs() - words.public.len();
-    let got = words.bits.len();
+    check_public(circuit, &ask.public)?;
+    let need = circuit.inputs() - ask.public.len();
+    let got = ask.bits.len();
     if need != got {
         return Err(Refusal::WrongBits {
             need: need as u64,
             got: got as u64,
         });
     }
-    let inputs = all_inputs(alloc, words.public, words.bits)?;
+    let inputs = all_inputs(alloc, &ask.public, &ask.bits)?;
     match eval_wires(alloc, circuit, &inputs) {
         Ok(wires) => Ok(wires),
         Err(EvalFault::WrongLength { .. }) => unreachable!(),
@@ -98,27 +92,27 @@ fn wires_at(alloc: Global, circuit: &Circuit, words: &ProveWords<'_>) -> Result<
 fn satisfying_wires(
     alloc: Global,
     circuit: &Circuit,
-    words: &ProveWords<'_>,
+    ask: &ProveAsk<String, Vec<bool>>,
 ) -> Result<Vec<bool>, Refusal>
     ensures wires { IfOk result (λ wires.
-        AreWireBits circuit.now (words.now.public.now ++ words.now.bits.now) wires.items) }
+        AreWireBits circuit.now (ask.now.public.items ++ ask.now.bits.items) wires.items) }
     ensures outputs { IfOk result (λ wires.
-        drop (output_wire circuit.now 0) wires.items ≡ words.now.outputs.now) }
-    ensures inputs { OnOk result (length (words.now.public.now ++ words.now.bits.now) ≡ circuit.now.inputs) }
-    ensures few { OnOk result (length words.now.public.now ≤ circuit.now.inputs) }
-    ensures count { OnOk result (length words.now.outputs.now ≡ circuit.now.outputs) }
-    ensures stop { IfErr result (WiresStop circuit.now (prove_words words.now)) }
+        drop (output_wire circuit.now 0) wires.items ≡ ask.now.outputs.items) }
+    ensures inputs { OnOk result (length (ask.now.public.items ++ ask.now.bits.items) ≡ circuit.now.inputs) }
+    ensures few { OnOk result (length ask.now.public.items ≤ circuit.now.inputs) }
+    ensures count { OnOk result (length ask.now.outputs.items ≡ circuit.now.outputs) }
+    ensures stop { IfErr result (WiresStop circuit.now (prove_of known_bits ask.now)) }
 {
     one_outcome();
     let _wires = circuit.wires();
-    let wires = wires_at(alloc, circuit, words)?;
-    if words.outputs.len() != circuit.outputs() {
+    let wires = wires_at(alloc, circuit, ask)?;
+    if ask.outputs.len() != circuit.outputs() {
         return Err(Refusal::WrongOutputs {
             need: circuit.outputs() as u64,
-            got: words.outputs.len() as u64,
+            got: ask.outputs.len() as u64,
         });
     }
-    match first_difference(output_bits(circuit, &wires), words.outputs) {
+    match first_difference(output_bits(circuit, &wires), &ask.outputs) {
         None => Ok(wires),
         Some(output) => Err(Refusal::Unsatisfied {
             output: output as u64,
@@ -130,26 +124,27 @@ fn satisfying_wires(
 fn load_witness<F: Shelf>(
     alloc: Global,
     shelf: &mut F,
-    words: &ProveWords<'_>,
+    ask: &ProveAsk<String, Vec<bool>>,
 ) -> Result<Witness, Refusal>
     ensures witness { IfOk result (λ w.
-        HasWitness (F.state shelf.old).told (prove_words words.now) w.claim w.inputs.items) }
+        HasWitness (F.state shelf.old).told (prove_of known_bits ask.now) w.claim w.inputs.items) }
     ensures inputs { IfOk result (λ w. length w.inputs.items ≡ w.claim.program.inputs) }
-    ensures stop { IfErr result (WitnessStop (prove_words words.now)
+    ensures stop { IfErr result (WitnessStop (prove_of known_bits ask.now)
         (change (F.state shelf.old) (F.state shelf.new))) }
-    ensures kept { OnlyLoads (IsName words.now.circuit.now) (change (F.state shelf.old) (F.state shelf.new)) }
+    ensures kept { OnlyLoads (IsName (string_bytes ask.now.circuit))
+        (change (F.state shelf.old) (F.state shelf.new)) }
     ensures quiet { OnOk result (F.state shelf.new ≡ F.state shelf.old) }
 {
     bits_solve();
     input_bits_prove();
-    let text = load_file(alloc, shelf, words.circuit)?;
+    let text = load_file(alloc, shelf, &ask.circuit)?;
     let circuit = read_circuit(alloc, &text)?;
-    let wires = satisfying_wires(alloc, &circuit, words)?;
+    let wires = satisfying_wires(alloc, &circuit, ask)?;
     drop(wires);
     let digest = Sha256::digest(&text);
     drop(text);
-    let claim = CircuitClaim::new(alloc, circuit, digest, words.public, words.outputs)?;
-    let inputs = elements_of(alloc, words.bits)?;
+    let claim = CircuitClaim::new(alloc, circuit, digest, &ask.public, &ask.outputs)?;
+    let inputs = elements_of(alloc, &ask.bits)?;
     Ok(Witness { claim, inputs })
 }
 
@@ -168,21 +163,21 @@ fn prove_job<R: Threads + Sync, D: Door, B: Disk>(
     rt: &R,
     alloc: Global,
     job: &ProverJob<'_>,
-    words: &ProveWords<'_>,
+    ask: &ProveAsk<String, Vec<bool>>,
     journal: B,
     door: &mut D,
 ) -> Result<(ProverNote<D::Link>, B), (Refusal, B)>
     requires disk { IsJournalDisk (B.state journal) }
-    ensures holds { IfOk result (λ r. HoldsSession D.Link.state (prove_words words.now) job.now r.0
+    ensures holds { IfOk result (λ r. HoldsSession D.Link.state (prove_of known_bits ask.now) job.now r.0
         (disk_change (B.state journal) (B.state r.1)) (change (D.state door.old) (D.state door.new))) }
-    ensures stop { IfErr result (λ r. BeginningStop (prove_words words.now) job.now
+    ensures stop { IfErr result (λ r. BeginningStop (prove_of known_bits ask.now) job.now
         (disk_change (B.state journal) (B.state r.1)) (change (D.state door.old) (D.state door.new)) r.0) }
 {
-    let store = match open_claims(alloc, journal, words.file, Access::Own, job.file()) {
+    let store = match open_claims(alloc, journal, &ask.file, Access::Own, job.file()) {
         Ok(store) => store,
         Err(stopped) => return Err(stopped),
     };
-    let link = match door.connect(alloc, words.address, words.timeout) {
+    let link = match door.connect(alloc, &ask.address, ask.timeout) {
         Ok(link) => link,
         Err(fault) => return Err((connect_stop(fault), store.close())),
     };
@@ -195,20 +190,21 @@ fn prove_job<R: Threads + Sync, D: Door, B: Disk>(
 fn load_all<F: Shelf>(
     alloc: Global,
     shelf: &mut F,
-    words: &ProveWords<'_>,
+    ask: &ProveAsk<String, Vec<bool>>,
 ) -> Result<(Witness, ProverFile), Refusal>
     ensures witness { IfOk result (λ r.
-        HasWitness (F.state shelf.old).told (prove_words words.now) r.0.claim r.0.inputs.items) }
+        HasWitness (F.state shelf.old).told (prove_of known_bits ask.now) r.0.claim r.0.inputs.items) }
     ensures inputs { IfOk result (λ r. length r.0.inputs.items ≡ r.0.claim.program.inputs) }
-    ensures file { IfOk result (λ r. IsProverFileAt (F.state shelf.old).told words.now.file.now r.1) }
-    ensures stop { IfErr result (λ stop. LacksProof (prove_words words.now)
+    ensures file { IfOk result (λ r.
+        IsProverFileAt (F.state shelf.old).told (string_bytes ask.now.file) r.1) }
+    ensures stop { IfErr result (λ stop. LacksProof (prove_of known_bits ask.now)
         (change (F.state shelf.old) (F.state shelf.new)) stop) }
-    ensures kept { OnlyLoads (IsProveName (prove_words words.now))
+    ensures kept { OnlyLoads (IsProveName (prove_of known_bits ask.now))
         (change (F.state shelf.old) (F.state shelf.new)) }
     ensures quiet { OnOk result (F.state shelf.new ≡ F.state shelf.old) }
 {
-    let witness = load_witness(alloc, shelf, words)?;
-    let file = load_prover(alloc, shelf, words.file)?;
+    let witness = load_witness(alloc, shelf, ask)?;
+    let file = load_prover(alloc, shelf, &ask.file)?;
     Ok((witness, file))
 }
 
@@ -217,28 +213,28 @@ fn prove_files<R: Threads + Sync, F: Shelf, D: Door, B: Disk>(
     rt: &R,
     alloc: Global,
     shelf: &mut F,
-    words: &ProveWords<'_>,
+    ask: &ProveAsk<String, Vec<bool>>,
     journal: B,
     door: &mut D,
 ) -> Result<(ProverNote<D::Link>, B), (Refusal, B)>
     requires disk { IsJournalDisk (B.state journal) }
-    ensures holds { IfOk result (λ r. HoldsAsked D.Link.state (prove_words words.now) r.0
+    ensures holds { IfOk result (λ r. HoldsAsked D.Link.state (prove_of known_bits ask.now) r.0
         (F.state shelf.old).told
         (disk_change (B.state journal) (B.state r.1)) (change (D.state door.old) (D.state door.new))) }
-    ensures stop { IfErr result (λ r. ProveStop (prove_words words.now)
+    ensures stop { IfErr result (λ r. ProveStop (prove_of known_bits ask.now)
         (change (F.state shelf.old) (F.state shelf.new))
         (disk_change (B.state journal) (B.state r.1)) (change (D.state door.old) (D.state door.new)) r.0) }
-    ensures kept { OnlyLoads (IsProveName (prove_words words.now))
+    ensures kept { OnlyLoads (IsProveName (prove_of known_bits ask.now))
         (change (F.state shelf.old) (F.state shelf.new)) }
     ensures quiet { OnOk result (F.state shelf.new ≡ F.state shelf.old) }
 {
-    let (witness, file) = match load_all(alloc, shelf, words) {
+    let (witness, file) = match load_all(alloc, shelf, ask) {
         Ok(loaded) => loaded,
         Err(refusal) => return Err((refusal, journal)),
     };
     let statement = witness.claim.statement();
     let job = ProverJob::new(&statement, &file, &witness.inputs);
-    prove_job(rt, alloc, &job, words, journal, door)
+    prove_job(rt, alloc, &job, ask, journal, door)
 }
 
 /// `prove ADDRESS FILE CIRCUIT BITS OUTPUTS [--public BITS]`: proves to the verifier at the address what the words name, with
@@ -247,10 +243,9 @@ pub fn run_prove<R, F, D, B, O>(
     rt: &R,
     alloc: Global,
     shelf: &mut F,
-    journal: B,
-    mut door: D,
+    ports: Ports<B, D>,
     out: &mut O,
-    words: &ProveWords<'_>,
+    ask: &ProveAsk<String, Vec<bool>>,
 ) -> Finish<B, D>
 where
     R: Threads + Sync,
@@ -259,30 +254,23 @@ where
     D::Link: Drop,
     B: Disk + Drop,
     O: Sink,
-    requires disk { IsJournalDisk (B.state journal) }
-    ensures proves { Proves D.Link.state (prove_words words.now) result.part
-        (disk_change (B.state journal) (B.state result.journal)) (change (D.state door) (D.state result.door))
+    requires disk { IsJournalDisk (B.state ports.journal) }
+    ensures proves { Proves D.Link.state (prove_of known_bits ask.now) result.part
+        (disk_change (B.state ports.journal) (B.state result.journal))
+        (change (D.state ports.door) (D.state result.door))
         (effects result.status
         (change (F.state shelf.old) (F.state shelf.new)) (change (O.state out.old) (O.state out.new))) }
 {
     one_circuit();
     claims_start_again();
-    match prove_files(rt, alloc, shelf, words, journal, &mut door) {
+    let Ports { journal, mut door } = ports;
+    match prove_files(rt, alloc, shelf, ask, journal, &mut door) {
         Ok((note, journal)) => {
             let count = journal.faults();
             let status = say_proved(alloc, out, note.granted, count, &note.outcome);
-            Finish {
-                status,
-                journal,
-                door,
-                part: Part::Proved(note),
-            }
+            let part = Part::Proved(note);
+            Ports { journal, door }.end_with(Ending { status, part })
         }
-        Err((refusal, journal)) => Finish {
-            status: say_stop(alloc, out, refusal),
-            journal,
-            door,
-            part: Part::Plain,
-        },
+        Err((refusal, journal)) => Ports { journal, door }.end(say_stop(alloc, out, refusal)),
     }
 }

@@ -2,58 +2,47 @@
 ghost use Rattle.std.specs.Prelude.{◌≡◌, ◌≤◌, ◌^◌, IfOk, IfErr, string_bytes};
 ghost use Rattle.zk_model.specs.declared.limits.TheConstants.{MAX_SECTION_LENGTH};
 ghost use Rattle.zk_port.specs.Changes.{change};
-ghost use Rattle.zk_cli.specs.RehearseRuns.{Rehearses, RehearseStop, IsRehearsed, rehearse_words, counts_line, rehearsal_lines, verdict_line, verdict_status};
+ghost use Rattle.command_words.specs.Commands.{known_bits, rehearse_of};
+ghost use Rattle.zk_cli.specs.RehearseRuns.{Rehearses, RehearseStop, IsRehearsed, counts_line, rehearsal_lines, verdict_line, verdict_status};
 ghost use Rattle.file_commands.specs.Effects.{OnlyLoads, IsName, effects};
 ghost use Rattle.file_commands.specs.Stops.{PrintsMade};
 
 use crate::finish::{Ending, Part};
 use bristol_reader::one_circuit;
-use command_words::write_bits;
+use command_words::{RehearseAsk, write_bits};
 use file_commands::{Refusal, check_public, load_circuit, say, say_memory, say_stop};
 use session_rehearsal::{Rehearsal, RehearseFault, Verdict, rehearse};
 use std::alloc::{AllocError, Global};
 use std::thread::Threads;
-use zk_model::Kind;
 use zk_port::{Shelf, Sink};
-
-/// What the words of the command name.
-#[derive(Clone, Copy, Debug)]
-pub struct RehearseWords<'a> {
-    pub circuit: &'a str,
-    pub public: &'a [bool],
-    pub bits: &'a [bool],
-    pub kind: Kind,
-    pub section: u32,
-}
 
 /// A rehearsal of the circuit that the words name, at their bits.
 fn rehearse_file<R: Threads + Sync, F: Shelf>(
     rt: &R,
     alloc: Global,
     shelf: &mut F,
-    words: &RehearseWords<'_>,
+    ask: &RehearseAsk<String, Vec<bool>>,
     seed: &[u8; 32],
 ) -> Result<Rehearsal, Refusal>
-    requires at_least_one { 1 ≤ words.now.section }
-    requires at_most { words.now.section ≤ MAX_SECTION_LENGTH }
+    requires at_least_one { 1 ≤ ask.now.section }
+    requires at_most { ask.now.section ≤ MAX_SECTION_LENGTH }
     ensures rehearsed { IfOk result
-        (IsRehearsed (F.state shelf.old).told (rehearse_words words.now) seed.now) }
-    ensures stop { IfErr result (RehearseStop (rehearse_words words.now)
+        (IsRehearsed (F.state shelf.old).told (rehearse_of known_bits ask.now) seed.now) }
+    ensures stop { IfErr result (RehearseStop (rehearse_of known_bits ask.now)
         (change (F.state shelf.old) (F.state shelf.new))) }
-    ensures kept { OnlyLoads (IsName words.now.circuit.now)
+    ensures kept { OnlyLoads (IsName (string_bytes ask.now.circuit))
         (change (F.state shelf.old) (F.state shelf.new)) }
 {
-    let circuit = load_circuit(alloc, shelf, words.circuit)?;
-    check_public(&circuit, words.public)?;
-    let (public, bits) = (words.public, words.bits);
+    let circuit = load_circuit(alloc, shelf, &ask.circuit)?;
+    check_public(&circuit, &ask.public)?;
     match rehearse(
         rt,
         alloc,
         circuit,
-        public,
-        bits,
-        words.kind,
-        words.section,
+        &ask.public,
+        &ask.bits,
+        ask.kind,
+        ask.section,
         seed,
     ) {
         Ok(rehearsal) => Ok(rehearsal),
@@ -127,17 +116,17 @@ pub fn run_rehearse<R: Threads + Sync, F: Shelf, O: Sink, L: Drop>(
     alloc: Global,
     shelf: &mut F,
     out: &mut O,
-    words: &RehearseWords<'_>,
+    ask: &RehearseAsk<String, Vec<bool>>,
     seed: &[u8; 32],
 ) -> Ending<L>
-    requires at_least_one { 1 ≤ words.now.section }
-    requires at_most { words.now.section ≤ MAX_SECTION_LENGTH }
-    ensures { Rehearses (rehearse_words words.now) seed.now result.part
+    requires at_least_one { 1 ≤ ask.now.section }
+    requires at_most { ask.now.section ≤ MAX_SECTION_LENGTH }
+    ensures { Rehearses (rehearse_of known_bits ask.now) seed.now result.part
         (effects result.status (change (F.state shelf.old) (F.state shelf.new))
         (change (O.state out.old) (O.state out.new))) }
 {
     one_circuit();
-    match rehearse_file(rt, alloc, shelf, words, seed) {
+    match rehearse_file(rt, alloc, shelf, ask, seed) {
         Ok(rehearsal) => Ending {
             status: say_rehearsal(alloc, out, &rehearsal),
             part: Part::Rehearsed(rehearsal),

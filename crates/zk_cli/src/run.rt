@@ -2,26 +2,24 @@
 ghost use Rattle.std.specs.Prelude.{◌≡◌, ◌≢◌, ◌⊎◌, None, Some, true, false};
 ghost use Rattle.zk_port.specs.Changes.{change};
 ghost use Rattle.command_words.specs.BitWords.{Bits, BitsAsk};
-ghost use Rattle.command_words.specs.Commands.{IsWithinLimits, ask_of, bits_ask};
+ghost use Rattle.command_words.specs.Commands.{IsWithinLimits, ask_of, bits_ask, known_bits};
 ghost use Rattle.command_words.specs.Forms.{IsReadAs};
 ghost use Rattle.command_words.specs.Words.{Ask, texts, asked};
 ghost use Rattle.zk_cli.specs.Meets.{DoesGiven, GrantsOnceGiven, MeetsGiven, Promises, SaysUsage, ShowsGiven, follows};
 ghost use Rattle.zk_cli.specs.Runs.{run_of};
 ghost use Rattle.file_commands.specs.Journals.{IsJournalDisk, disk_change};
 
-use crate::finish::{Ending, Finish, Part};
+use crate::finish::{Finish, Ports};
 use crate::generate_command::run_generate;
-use crate::many_command::{ManyWords, run_serve_many};
-use crate::prove_command::{ProveWords, run_prove};
-use crate::rehearse_command::{RehearseWords, run_rehearse};
-use crate::serve_command::{ServiceWords, run_service};
-use command_words::{Ask as CommandAsk, BitsWord, Command, ServeAsk, read_words};
+use crate::many_command::run_serve_many;
+use crate::prove_command::run_prove;
+use crate::rehearse_command::run_rehearse;
+use crate::serve_command::run_serve;
+use command_words::{Ask as Asks, BitsWord, Command, read_words};
 use file_commands::{Refusal, read_given, run_deal, run_eval, run_migrate, say_memory, say_stop};
-use proof_audit::{AuditWords, run_audit};
-use statement_file::NamedClaim;
+use proof_audit::run_audit;
 use status_command::{StatusEnd, run_status};
 use std::alloc::Global;
-use std::slice::from_ref;
 use std::sync::Wait;
 use std::thread::Threads;
 use zk_port::{Disk, Door, Shelf, Sink};
@@ -32,8 +30,7 @@ fn run_command<R, F, D, B, O, E>(
     alloc: Global,
     command: Command<Vec<bool>>,
     shelf: &mut F,
-    journal: B,
-    door: D,
+    ports: Ports<B, D>,
     seed: &[u8; 32],
     out: &mut O,
     notices: &mut E,
@@ -46,133 +43,36 @@ where
     B: Disk + Drop + Send,
     O: Sink,
     E: Sink + Send,
-    requires disk { IsJournalDisk (B.state journal) }
+    requires disk { IsJournalDisk (B.state ports.journal) }
     requires limits { IsWithinLimits command }
-    ensures promises { Promises (ask_of (λ v. v.items) command) seed.now
-        (disk_change (B.state journal) (B.state result.journal)) (run_of F.state D.state D.Link.state
+    ensures promises { Promises (ask_of known_bits command) seed.now
+        (disk_change (B.state ports.journal) (B.state result.journal)) (run_of F.state D.state D.Link.state
         result.status result.part (change shelf.old shelf.new) (change (O.state out.old) (O.state out.new))
-        (change journal result.journal) (change door result.door)) }
-    ensures quiet { follows (ask_of (λ v. v.items) command) ≡ false
+        (change ports.journal result.journal) (change ports.door result.door)) }
+    ensures quiet { follows (ask_of known_bits command) ≡ false
         → E.state notices.new ≡ E.state notices.old }
 {
     match command {
-        CommandAsk::Deal(ask) => Finish {
-            status: run_deal(alloc, shelf, out, &ask.name, &ask.params, seed),
-            journal,
-            door,
-            part: Part::Plain,
-        },
-        CommandAsk::Eval(ask) => Finish {
-            status: run_eval(alloc, shelf, out, &ask.circuit, &ask.bits),
-            journal,
-            door,
-            part: Part::Plain,
-        },
-        CommandAsk::Rehearse(ask) => {
-            let named = RehearseWords {
-                circuit: &ask.circuit,
-                public: &ask.public,
-                bits: &ask.bits,
-                kind: ask.kind,
-                section: ask.section,
-            };
-            let Ending { status, part } = run_rehearse(rt, alloc, shelf, out, &named, seed);
-            Finish {
-                status,
-                journal,
-                door,
-                part,
-            }
-        }
-        CommandAsk::Generate(ask) => {
-            let Ending { status, part } = run_generate(rt, alloc, shelf, out, &ask, seed);
-            Finish {
-                status,
-                journal,
-                door,
-                part,
-            }
-        }
-        CommandAsk::Serve(ask) => {
-            let ServeAsk {
-                address,
-                file,
-                circuit,
-                public,
-                outputs,
-                options,
-            } = ask;
-            let claim = NamedClaim::new(circuit, public, outputs);
-            let named = ServiceWords {
-                address: &address,
-                file: &file,
-                claims: from_ref(&claim),
-                options: &options,
-            };
-            run_service(rt, alloc, shelf, journal, door, out, notices, &named)
-        }
-        CommandAsk::ServeMany(ask) => {
-            let named = ManyWords {
-                address: &ask.address,
-                file: &ask.file,
-                statements: &ask.statements,
-                options: &ask.options,
-            };
-            run_serve_many(rt, alloc, shelf, journal, door, out, notices, &named)
-        }
-        CommandAsk::Prove(ask) => {
-            let named = ProveWords {
-                address: &ask.address,
-                file: &ask.file,
-                circuit: &ask.circuit,
-                public: &ask.public,
-                bits: &ask.bits,
-                outputs: &ask.outputs,
-                timeout: ask.timeout,
-            };
-            run_prove(rt, alloc, shelf, journal, door, out, &named)
-        }
-        CommandAsk::Audit(ask) => {
-            let named = AuditWords {
-                circuit: &ask.circuit,
-                public: &ask.public,
-                outputs: &ask.outputs,
-                prover: &ask.prover,
-                verifier: &ask.verifier,
-                log: &ask.log,
-            };
-            Finish {
-                status: run_audit(alloc, shelf, out, &named),
-                journal,
-                door,
-                part: Part::Plain,
-            }
-        }
-        CommandAsk::Status(ask) => {
+        Asks::Deal(ask) => ports.end(run_deal(alloc, shelf, out, &ask.name, &ask.params, seed)),
+        Asks::Eval(ask) => ports.end(run_eval(alloc, shelf, out, &ask.circuit, &ask.bits)),
+        Asks::Rehearse(ask) => ports.end_with(run_rehearse(rt, alloc, shelf, out, &ask, seed)),
+        Asks::Generate(ask) => ports.end_with(run_generate(rt, alloc, shelf, out, &ask, seed)),
+        Asks::Serve(ask) => run_serve(rt, alloc, shelf, ports, out, notices, ask),
+        Asks::ServeMany(ask) => run_serve_many(rt, alloc, shelf, ports, out, notices, ask),
+        Asks::Prove(ask) => run_prove(rt, alloc, shelf, ports, out, &ask),
+        Asks::Audit(ask) => ports.end(run_audit(alloc, shelf, out, &ask)),
+        Asks::Status(ask) => {
+            let Ports { journal, door } = ports;
+            let circuit = ask.circuit.as_deref();
             let StatusEnd { status, journal } = run_status(
-                alloc,
-                shelf,
-                journal,
-                out,
-                &ask.file,
-                ask.circuit.as_deref(),
+                alloc, shelf, journal, out, &ask.file, circuit,
             );
-            Finish {
-                status,
-                journal,
-                door,
-                part: Part::Plain,
-            }
+            Ports { journal, door }.end(status)
         }
-        CommandAsk::Migrate(ask) => {
-            let mut journal = journal;
+        Asks::Migrate(ask) => {
+            let Ports { mut journal, door } = ports;
             let status = run_migrate(alloc, shelf, &mut journal, out, ask.side, &ask.file);
-            Finish {
-                status,
-                journal,
-                door,
-                part: Part::Plain,
-            }
+            Ports { journal, door }.end(status)
         }
     }
 }
@@ -183,8 +83,7 @@ fn run_words<R, F, D, B, O, E>(
     alloc: Global,
     command: Command<BitsWord>,
     shelf: &mut F,
-    journal: B,
-    door: D,
+    ports: Ports<B, D>,
     seed: &[u8; 32],
     out: &mut O,
     notices: &mut E,
@@ -197,22 +96,17 @@ where
     B: Disk + Drop + Send,
     O: Sink,
     E: Sink + Send,
-    requires disk { IsJournalDisk (B.state journal) }
+    requires disk { IsJournalDisk (B.state ports.journal) }
     requires limits { IsWithinLimits command }
     ensures does { DoesGiven (ask_of bits_ask command) seed.now
-        (disk_change (B.state journal) (B.state result.journal)) (run_of F.state D.state D.Link.state
+        (disk_change (B.state ports.journal) (B.state result.journal)) (run_of F.state D.state D.Link.state
         result.status result.part (change shelf.old shelf.new) (change (O.state out.old) (O.state out.new))
-        (change journal result.journal) (change door result.door)) }
+        (change ports.journal result.journal) (change ports.door result.door)) }
     ensures quiet { follows (ask_of bits_ask command) ≡ false → E.state notices.new ≡ E.state notices.old }
 {
     match read_given(alloc, shelf, command) {
-        Ok(known) => run_command(rt, alloc, known, shelf, journal, door, seed, out, notices),
-        Err(stop) => Finish {
-            status: say_stop(alloc, out, stop),
-            journal,
-            door,
-            part: Part::Plain,
-        },
+        Ok(known) => run_command(rt, alloc, known, shelf, ports, seed, out, notices),
+        Err(stop) => ports.end(say_stop(alloc, out, stop)),
     }
 }
 
@@ -296,21 +190,10 @@ where
     ensures quiet { (E.state notices.new ≡ E.state notices.old)
         ⊎ ((ask : Ask BitsAsk) × IsReadAs (texts words.now) ask × (follows ask ≡ true)) }
 {
+    let ports = Ports { journal, door };
     match read_words(alloc, words) {
-        Ok(Some(command)) => run_words(
-            rt, alloc, command, shelf, journal, door, seed, out, notices,
-        ),
-        Ok(None) => Finish {
-            status: say_stop(alloc, out, Refusal::Usage),
-            journal,
-            door,
-            part: Part::Plain,
-        },
-        Err(_) => Finish {
-            status: say_memory(alloc, out),
-            journal,
-            door,
-            part: Part::Plain,
-        },
+        Ok(Some(command)) => run_words(rt, alloc, command, shelf, ports, seed, out, notices),
+        Ok(None) => ports.end(say_stop(alloc, out, Refusal::Usage)),
+        Err(_) => ports.end(say_memory(alloc, out)),
     }
 }

@@ -12,21 +12,23 @@ ghost use Rattle.zk_port.specs.Changes.{change};
 ghost use Rattle.zk_model.specs.declared.limits.TheConstants.{MAX_STATEMENTS};
 ghost use Rattle.session_verifier.specs.ServiceLogs.{TriesLogs};
 ghost use Rattle.session_verifier.specs.declared.note.VerifierOutcome.TheVariants.{Accepted};
-ghost use Rattle.command_words.specs.Commands.{AreServeLimits, named_options};
+ghost use Rattle.command_words.specs.Commands.{AreServeLimits, known_bits, named_options, serve_of};
+ghost use Rattle.command_words.specs.declared.asks.Ask.TheVariants.{Serve as serve};
 ghost use Rattle.file_commands.specs.Journals.{IsJournalDisk, disk_change};
 ghost use Rattle.file_commands.specs.Effects.{OnlyLoads, effects};
+ghost use Rattle.statement_file.specs.Services.{service_asked};
 ghost use Rattle.zk_cli.specs.Runs.{EachNote, OfNotes};
 ghost use Rattle.zk_cli.specs.ServeRuns.{TakeFewUnits, IsLoadedName, LeadsFiles, LeadsJobs};
-ghost use Rattle.zk_cli.specs.ServeRuns.{OpeningStop, Serves, ServeStop, service_words, units_of_note};
-ghost use Rattle.zk_cli.specs.ServedNotes.{GrantsOnce, ShowsClaim};
+ghost use Rattle.zk_cli.specs.ServeRuns.{OpeningStop, Serves, ServeStop, service_of, units_of_note};
+ghost use Rattle.zk_cli.specs.ServedNotes.{GrantsOnce, GrantsOnceIn, ShowsClaim, ShowsClaims};
 
 use crate::claim_files::load_files;
-use crate::finish::{Finish, Part};
+use crate::finish::{Ending, Finish, Part, Ports};
 use crate::follow::{Unheard, say_start};
 use crate::serve_jobs::{fit_jobs, most_units, statements_of};
 use crate::watched::{Watched, serve_watched};
 use bristol_reader::one_circuit;
-use command_words::ServeOptions;
+use command_words::{ServeAsk, ServeManyAsk, ServeOptions};
 use file_commands::{Refusal, open_ceilings, say_stop};
 use lease_store::{LeaseParts, ceilings_start_again};
 use lease_words::Pass;
@@ -37,25 +39,19 @@ use session_verifier::{LogFaults, LogLoan, SessionNote, order_notes, say_service
 use statement_file::NamedClaim;
 use std::alloc::Global;
 use std::marker::Brand;
+use std::slice::from_ref;
 use std::sync::Wait;
 use std::thread::Threads;
 use zk_port::{Access, Disk, Door, PortFault, Shelf, Sink};
 
-/// What is served: where, over which file, about which claims, and how.
-#[derive(Clone, Copy, Debug)]
-pub struct ServiceWords<'a> {
-    pub address: &'a str,
-    pub file: &'a str,
-    pub claims: &'a [NamedClaim],
-    pub options: &'a ServeOptions<String>,
-}
+/// What is served: where, over which file, about these claims, and how.
+pub type Service<'a> = ServeManyAsk<String, &'a [NamedClaim]>;
 
 /// Why nothing is served, with the disk and the door as they are then.
 #[derive(Drop)]
 struct Stopped<B, D> {
     refusal: Refusal,
-    journal: B,
-    door: D,
+    ports: Ports<B, D>,
 }
 
 /// The sessions that were led, and what became of the calls for their logs.
@@ -93,8 +89,8 @@ where
         → HasCeilingHeader jobs.now.first.task.file.id parts.total bytes }
     requires begins { Begins (B.state parts.disk) (B.state parts.disk) }
     ensures notes { All (IsNoteOf (IsAnsweredNote D.Link.state jobs.now)) result.served.notes.items }
-    ensures taken { TakesLinks options.now.sessions (length result.served.notes.items) result.served.door_failed
-        result.served.memory_failed (D.state door) (D.state result.served.door) }
+    ensures taken { TakesLinks options.now.sessions (length result.served.notes.items)
+        result.served.door_failed result.served.memory_failed (D.state door) (D.state result.served.door) }
     ensures apart { AllPairs (λ m n. AreGrantsApart m.granted n.granted) result.served.notes.items }
     ensures left { IsLeft (All IsUnused passes.items) (B.state parts.disk) (B.state result.served.disk)
         jobs.now.first.task.file.id parts.base parts.total parts.passes (units_of_note jobs.now)
@@ -125,9 +121,8 @@ fn serve_jobs<R, F, E, D, B>(
     shelf: &mut F,
     notices: &mut E,
     jobs: &VerifierJobs<'_>,
-    words: &ServiceWords<'_>,
-    journal: B,
-    mut door: D,
+    service: &Service<'_>,
+    ports: Ports<B, D>,
 ) -> Result<Led<B, D>, Stopped<B, D>>
 where
     R: Threads + Wait + Sync,
@@ -136,26 +131,27 @@ where
     D: Door + Drop + Send,
     D::Link: Drop + Send,
     B: Disk + Drop + Send,
-    requires disk { IsJournalDisk (B.state journal) }
-    requires limits { AreServeLimits (named_options words.now.options.now) }
+    requires disk { IsJournalDisk (B.state ports.journal) }
+    requires limits { AreServeLimits (named_options service.now.options) }
     requires few { TakeFewUnits jobs.now }
-    ensures leads { IfOk result (λ led. LeadsJobs D.Link.state (service_words words.now) jobs.now
+    ensures leads { IfOk result (λ led. LeadsJobs D.Link.state (service_of service.now) jobs.now
         led.served.notes.items led.served.door_failed led.served.memory_failed
-        (disk_change (B.state journal) (B.state led.served.disk))
-        (change (D.state door) (D.state led.served.door))) }
-    ensures tried { IfOk result (λ led. TriesLogs (service_words words.now).options.logs
+        (disk_change (B.state ports.journal) (B.state led.served.disk))
+        (change (D.state ports.door) (D.state led.served.door))) }
+    ensures tried { IfOk result (λ led. TriesLogs (service_of service.now).options.logs
         (change (F.state shelf.old) (F.state shelf.new)) led.faults.failed) }
-    ensures stop { IfErr result (λ stopped. OpeningStop (service_words words.now) jobs.now
-        (disk_change (B.state journal) (B.state stopped.journal))
-        (change (D.state door) (D.state stopped.door)) stopped.refusal) }
+    ensures stop { IfErr result (λ stopped. OpeningStop (service_of service.now) jobs.now
+        (disk_change (B.state ports.journal) (B.state stopped.ports.journal))
+        (change (D.state ports.door) (D.state stopped.ports.door)) stopped.refusal) }
     ensures unasked { OnErr result (F.state shelf.new ≡ F.state shelf.old) }
 {
-    let options = words.options;
+    let Ports { journal, mut door } = ports;
+    let options = &service.options;
     let file = jobs.job(0).file();
     let opened = open_ceilings(
         alloc,
         journal,
-        words.file,
+        &service.file,
         Access::Own,
         file,
         options.workers,
@@ -163,14 +159,11 @@ where
     let (parts, passes) = match opened {
         Ok(opened) => opened,
         Err((refusal, journal)) => {
-            return Err(Stopped {
-                refusal,
-                journal,
-                door,
-            });
+            let ports = Ports { journal, door };
+            return Err(Stopped { refusal, ports });
         }
     };
-    let refusal = match door.listen(alloc, words.address, options.timeout, options.sessions) {
+    let refusal = match door.listen(alloc, &service.address, options.timeout, options.sessions) {
         Ok(()) => {
             let left = file.total().saturating_sub(parts.base());
             say_start(
@@ -189,11 +182,9 @@ where
         Err(PortFault::Failed) => Refusal::DoorFailed,
         Err(PortFault::NoMemory) => Refusal::NoMemory,
     };
-    Err(Stopped {
-        refusal,
-        journal: parts.into_disk(),
-        door,
-    })
+    let journal = parts.into_disk();
+    let ports = Ports { journal, door };
+    Err(Stopped { refusal, ports })
 }
 
 /// Loads what is named, makes the jobs of its claims, and serves them; or says why not.
@@ -202,9 +193,8 @@ fn serve_files<R, F, E, D, B>(
     alloc: Global,
     shelf: &mut F,
     notices: &mut E,
-    words: &ServiceWords<'_>,
-    journal: B,
-    door: D,
+    service: &Service<'_>,
+    ports: Ports<B, D>,
 ) -> Result<Led<B, D>, Stopped<B, D>>
 where
     R: Threads + Wait + Sync,
@@ -213,54 +203,40 @@ where
     D: Door + Drop + Send,
     D::Link: Drop + Send,
     B: Disk + Drop + Send,
-    requires disk { IsJournalDisk (B.state journal) }
-    requires limits { AreServeLimits (named_options words.now.options.now) }
-    requires some { 1 ≤ length words.now.claims.now }
-    requires most { length words.now.claims.now ≤ MAX_STATEMENTS }
-    ensures leads { IfOk result (λ led. LeadsFiles D.Link.state (service_words words.now)
+    requires disk { IsJournalDisk (B.state ports.journal) }
+    requires limits { AreServeLimits (named_options service.now.options) }
+    requires some { 1 ≤ length service.now.statements.now }
+    requires most { length service.now.statements.now ≤ MAX_STATEMENTS }
+    ensures leads { IfOk result (λ led. LeadsFiles D.Link.state (service_of service.now)
         led.served.notes.items led.served.door_failed led.served.memory_failed (F.state shelf.old).told
-        (disk_change (B.state journal) (B.state led.served.disk)) (change (D.state door) (D.state led.served.door))) }
-    ensures tried { IfOk result (λ led. TriesLogs (service_words words.now).options.logs
+        (disk_change (B.state ports.journal) (B.state led.served.disk))
+        (change (D.state ports.door) (D.state led.served.door))) }
+    ensures tried { IfOk result (λ led. TriesLogs (service_of service.now).options.logs
         (change (F.state shelf.old) (F.state shelf.new)) led.faults.failed) }
-    ensures stop { IfErr result (λ stopped. ServeStop (service_words words.now)
+    ensures stop { IfErr result (λ stopped. ServeStop (service_of service.now)
         (change (F.state shelf.old) (F.state shelf.new))
-        (disk_change (B.state journal) (B.state stopped.journal))
-        (change (D.state door) (D.state stopped.door)) stopped.refusal) }
-    ensures kept { OnErr result (OnlyLoads (IsLoadedName (service_words words.now))
+        (disk_change (B.state ports.journal) (B.state stopped.ports.journal))
+        (change (D.state ports.door) (D.state stopped.ports.door)) stopped.refusal) }
+    ensures kept { OnErr result (OnlyLoads (IsLoadedName (service_of service.now))
         (change (F.state shelf.old) (F.state shelf.new))) }
 {
-    let files = match load_files(alloc, shelf, words) {
+    let files = match load_files(alloc, shelf, service) {
         Ok(files) => files,
-        Err(refusal) => {
-            return Err(Stopped {
-                refusal,
-                journal,
-                door,
-            });
-        }
+        Err(refusal) => return Err(Stopped { refusal, ports }),
     };
     let Ok(statements) = statements_of(alloc, &files.claims) else {
-        return Err(Stopped {
-            refusal: Refusal::NoMemory,
-            journal,
-            door,
-        });
+        let refusal = Refusal::NoMemory;
+        return Err(Stopped { refusal, ports });
     };
-    let jobs = match fit_jobs(alloc, &statements, &files.file, words.options.section) {
+    let jobs = match fit_jobs(alloc, &statements, &files.file, service.options.section) {
         Ok(jobs) => jobs,
-        Err(refusal) => {
-            return Err(Stopped {
-                refusal,
-                journal,
-                door,
-            });
-        }
+        Err(refusal) => return Err(Stopped { refusal, ports }),
     };
     let [first, others @ ..] = jobs.as_slice() else {
         unreachable!();
     };
     let jobs = VerifierJobs::new(first, others);
-    serve_jobs(rt, alloc, shelf, notices, &jobs, words, journal, door)
+    serve_jobs(rt, alloc, shelf, notices, &jobs, service, ports)
 }
 
 /// Serves sessions about the claims over the file's journal, keeps their logs, says what came of them and hands them back, in
@@ -269,11 +245,10 @@ fn serve_heard<R, F, D, B, O, E>(
     rt: &R,
     alloc: Global,
     shelf: &mut F,
-    journal: B,
-    door: D,
+    ports: Ports<B, D>,
     out: &mut O,
     notices: &mut E,
-    words: &ServiceWords<'_>,
+    service: &Service<'_>,
 ) -> Finish<B, D>
 where
     R: Threads + Wait + Sync,
@@ -283,23 +258,24 @@ where
     B: Disk + Drop + Send,
     O: Sink,
     E: Sink + Send,
-    requires disk { IsJournalDisk (B.state journal) }
-    requires limits { AreServeLimits (named_options words.now.options.now) }
-    requires some { 1 ≤ length words.now.claims.now }
-    requires most { length words.now.claims.now ≤ MAX_STATEMENTS }
-    ensures serves { Serves D.Link.state (service_words words.now) result.part
-        (disk_change (B.state journal) (B.state result.journal)) (change (D.state door) (D.state result.door))
+    requires disk { IsJournalDisk (B.state ports.journal) }
+    requires limits { AreServeLimits (named_options service.now.options) }
+    requires some { 1 ≤ length service.now.statements.now }
+    requires most { length service.now.statements.now ≤ MAX_STATEMENTS }
+    ensures serves { Serves D.Link.state (service_of service.now) result.part
+        (disk_change (B.state ports.journal) (B.state result.journal))
+        (change (D.state ports.door) (D.state result.door))
         (effects result.status
         (change (F.state shelf.old) (F.state shelf.new)) (change (O.state out.old) (O.state out.new))) }
     ensures headline { EachNote result.part (λ note. note.outcome ≡ Accepted →
-        ShowsClaim (F.state shelf.old).told (service_words words.now) note) }
-    ensures once { OfNotes result.part (λ notes. GrantsOnce (F.state shelf.old).told (service_words words.now)
-        notes (disk_change (B.state journal) (B.state result.journal))) }
+        ShowsClaim (F.state shelf.old).told (service_of service.now) note) }
+    ensures once { OfNotes result.part (λ notes. GrantsOnce (F.state shelf.old).told (service_of service.now)
+        notes (disk_change (B.state ports.journal) (B.state result.journal))) }
 {
     one_circuit();
     ceilings_start_again();
     extracted_shows_outputs();
-    match serve_files(rt, alloc, shelf, notices, words, journal, door) {
+    match serve_files(rt, alloc, shelf, notices, service, ports) {
         Ok(led) => {
             let Led { served, faults } = led;
             let Served {
@@ -310,7 +286,7 @@ where
                 memory_failed,
             } = served;
             order_notes(&mut notes);
-            let logs = words.options.logs.as_deref();
+            let logs = service.options.logs.as_deref();
             let status = say_service(
                 alloc,
                 shelf,
@@ -321,25 +297,11 @@ where
                 door_failed,
                 memory_failed,
             );
-            Finish {
-                status,
-                journal: disk,
-                door,
-                part: Part::Served(notes),
-            }
+            let journal = disk;
+            let part = Part::Served(notes);
+            Ports { journal, door }.end_with(Ending { status, part })
         }
-        Err(
-            Stopped {
-                refusal,
-                journal,
-                door,
-            },
-        ) => Finish {
-            status: say_stop(alloc, out, refusal),
-            journal,
-            door,
-            part: Part::Plain,
-        },
+        Err(Stopped { refusal, ports }) => ports.end(say_stop(alloc, out, refusal)),
     }
 }
 
@@ -349,11 +311,10 @@ pub fn run_service<R, F, D, B, O, E>(
     rt: &R,
     alloc: Global,
     shelf: &mut F,
-    journal: B,
-    door: D,
+    ports: Ports<B, D>,
     out: &mut O,
     notices: &mut E,
-    words: &ServiceWords<'_>,
+    service: &Service<'_>,
 ) -> Finish<B, D>
 where
     R: Threads + Wait + Sync,
@@ -363,23 +324,65 @@ where
     B: Disk + Drop + Send,
     O: Sink,
     E: Sink + Send,
-    requires disk { IsJournalDisk (B.state journal) }
-    requires limits { AreServeLimits (named_options words.now.options.now) }
-    requires some { 1 ≤ length words.now.claims.now }
-    requires most { length words.now.claims.now ≤ MAX_STATEMENTS }
-    ensures serves { Serves D.Link.state (service_words words.now) result.part
-        (disk_change (B.state journal) (B.state result.journal)) (change (D.state door) (D.state result.door))
+    requires disk { IsJournalDisk (B.state ports.journal) }
+    requires limits { AreServeLimits (named_options service.now.options) }
+    requires some { 1 ≤ length service.now.statements.now }
+    requires most { length service.now.statements.now ≤ MAX_STATEMENTS }
+    ensures serves { Serves D.Link.state (service_of service.now) result.part
+        (disk_change (B.state ports.journal) (B.state result.journal))
+        (change (D.state ports.door) (D.state result.door))
         (effects result.status
         (change (F.state shelf.old) (F.state shelf.new)) (change (O.state out.old) (O.state out.new))) }
     ensures headline { EachNote result.part (λ note. note.outcome ≡ Accepted →
-        ShowsClaim (F.state shelf.old).told (service_words words.now) note) }
-    ensures once { OfNotes result.part (λ notes. GrantsOnce (F.state shelf.old).told (service_words words.now)
-        notes (disk_change (B.state journal) (B.state result.journal))) }
-    ensures quiet { words.now.options.now.follow ≡ false → E.state notices.new ≡ E.state notices.old }
+        ShowsClaim (F.state shelf.old).told (service_of service.now) note) }
+    ensures once { OfNotes result.part (λ notes. GrantsOnce (F.state shelf.old).told (service_of service.now)
+        notes (disk_change (B.state ports.journal) (B.state result.journal))) }
+    ensures quiet { service.now.options.follow ≡ false → E.state notices.new ≡ E.state notices.old }
 {
-    if words.options.follow {
-        serve_heard(rt, alloc, shelf, journal, door, out, notices, words)
+    if service.options.follow {
+        serve_heard(rt, alloc, shelf, ports, out, notices, service)
     } else {
-        serve_heard(rt, alloc, shelf, journal, door, out, &mut Unheard, words)
+        serve_heard(rt, alloc, shelf, ports, out, &mut Unheard, service)
     }
+}
+
+/// `serve ADDRESS FILE CIRCUIT OUTPUTS --sessions N [--workers W] [--section G] [--timeout S] [--logs PREFIX] [--follow]
+/// [--public BITS]`: serves sessions about the claim that is asked for, or says why none is served; with the status.
+pub fn run_serve<R, F, D, B, O, E>(
+    rt: &R,
+    alloc: Global,
+    shelf: &mut F,
+    ports: Ports<B, D>,
+    out: &mut O,
+    notices: &mut E,
+    ask: ServeAsk<String, Vec<bool>>,
+) -> Finish<B, D>
+where
+    R: Threads + Wait + Sync,
+    F: Shelf + Send,
+    D: Door + Drop + Send,
+    D::Link: Drop + Send,
+    B: Disk + Drop + Send,
+    O: Sink,
+    E: Sink + Send,
+    requires disk { IsJournalDisk (B.state ports.journal) }
+    requires limits { AreServeLimits (named_options ask.options) }
+    ensures serves { Serves D.Link.state (service_asked (serve_of known_bits ask)) result.part
+        (disk_change (B.state ports.journal) (B.state result.journal))
+        (change (D.state ports.door) (D.state result.door))
+        (effects result.status
+        (change (F.state shelf.old) (F.state shelf.new)) (change (O.state out.old) (O.state out.new))) }
+    ensures headline { ShowsClaims (F.state shelf.old).told (serve (serve_of known_bits ask)) result.part }
+    ensures once { GrantsOnceIn (F.state shelf.old).told (serve (serve_of known_bits ask)) result.part
+        (disk_change (B.state ports.journal) (B.state result.journal)) }
+    ensures quiet { ask.options.follow ≡ false → E.state notices.new ≡ E.state notices.old }
+{
+    let claim = NamedClaim::new(ask.circuit, ask.public, ask.outputs);
+    let service = ServeManyAsk {
+        address: ask.address,
+        file: ask.file,
+        statements: from_ref(&claim),
+        options: ask.options,
+    };
+    run_service(rt, alloc, shelf, ports, out, notices, &service)
 }

@@ -80,8 +80,8 @@ where
         → HasCeilingHeader jobs.now.first.task.file.id parts.total bytes }
     requires begins { Begins (B.state parts.disk) (B.state parts.disk) }
     ensures notes { All (IsNoteOf (IsAnsweredNote D.Link.state jobs.now)) result.served.notes.items }
-    ensures taken { TakesLinks options.now.sessions (length result.served.notes.items) result.served.door_failed
-        result.served.memory_failed (D.state door) (D.state result.served.door) }
+    ensures taken { TakesLinks options.now.sessions (length result.served.notes.items)
+        result.served.door_failed result.served.memory_failed (D.state door) (D.state result.served.door) }
     ensures apart { AllPairs (λ m n. AreGrantsApart m.granted n.granted) result.served.notes.items }
     ensures left { IsLeft (All IsUnused passes.items) (B.state parts.disk) (B.state result.served.disk)
         jobs.now.first.task.file.id parts.base parts.total parts.passes (units_of_note jobs.now)

@@ -3,11 +3,11 @@ use Rattle.zk_port.specs.Changes.{change}
 use Rattle.zk_port.specs.Shelves.{ShelfState}
 use Rattle.session_verifier.specs.declared.note.SessionNote.{SessionNote}
 use Rattle.session_verifier.specs.declared.note.VerifierOutcome.TheVariants.{Accepted}
+use Rattle.command_words.specs.Commands.{serve_many_of}
 use Rattle.statement_file.specs.Claims.{NamedClaim}
 use Rattle.statement_file.specs.Services.{service_of_many}
 use Rattle.file_commands.specs.Journals.{disk_change}
 use Rattle.file_commands.specs.Effects.{effects}
-use Rattle.zk_cli.specs.ManyRuns.{many_words}
 use Rattle.zk_cli.specs.ServeRuns.{Serves}
 use Rattle.zk_cli.specs.ServedNotes.{GrantsOnce, ShowsClaim}
 use Rattle.zk_cli.proofs.Many.{of_notes, serves_claims, serves_none}
@@ -15,40 +15,41 @@ use Rattle.zk_cli.proofs.many_command.run_serve_many.Goals as goal
 
 pub returns-in-Err-clause-serves : goal.returns-in-Err-clause-serves
 returns-in-Err-clause-serves g c =
-    serves_none g.D.Link.Link.state (many_words c.args.words.now) (g.B.Disk.state c.args.journal) (g.D.Door.state c.args.door) _
-    (record { stop = c.in-Err.stop; cause = c.in-Err.ensures.stop; prints = c.say_stop.ensures }) c.in-Err.ensures.kept
+    rw c.end.ensures
+    (serves_none g.D.Link.Link.state (serve_many_of c.args.ask) (g.B.Disk.state c.args.ports.journal) (g.D.Door.state c.args.ports.door) _
+    (record { stop = c.in-Err.stop; cause = c.in-Err.ensures.stop; prints = c.say_stop.ensures }) c.in-Err.ensures.kept)
 
 pub returns-clause-serves : goal.returns-clause-serves
 returns-clause-serves g c =
-    let ask = many_words c.args.words.now in
+    let ask = serve_many_of c.args.ask in
     let new = g.F.Shelf.state c.run_service.new.shelf in
     let sink = change (g.O.Sink.state c.args.out.now) (g.O.Sink.state c.run_service.new.out) in
-    let disk = disk_change (g.B.Disk.state c.args.journal) (g.B.Disk.state c.run_service.result.journal) in
-    let door = change (g.D.Door.state c.args.door) (g.D.Door.state c.run_service.result.door) in
+    let disk = disk_change (g.B.Disk.state c.args.ports.journal) (g.B.Disk.state c.run_service.result.journal) in
+    let door = change (g.D.Door.state c.args.ports.door) (g.D.Door.state c.run_service.result.door) in
     serves_claims g.D.Link.Link.state ask c.in-Ok.claims.items c.run_service.result.part disk door
     (effects c.run_service.result.status (change (g.F.Shelf.state c.args.shelf.now) new) sink) c.in-Ok.ensures.claims
     (subst (λ (p : ShelfState × List NamedClaim). Serves {L = g.row.D-Link.Denot} g.D.Link.Link.state (service_of_many ask p.1) c.run_service.result.part disk door
-    (effects c.run_service.result.status (change p.0 new) sink)) (λ i. (c.in-Ok.ensures.quiet i, c.deref.ensures.value i)) c.run_service.ensures.serves)
+    (effects c.run_service.result.status (change p.0 new) sink)) (λ i. (c.in-Ok.ensures.quiet i, c.as_slice.ensures.value i)) c.run_service.ensures.serves)
 
 pub returns-clause-headline : goal.returns-clause-headline
 returns-clause-headline g c =
-    let ask = many_words c.args.words.now in
+    let ask = serve_many_of c.args.ask in
     let claims = c.in-Ok.claims.items in
     of_notes c.run_service.result.part _ _ (λ notes holds. (
       service_of_many ask claims,
       (claims, c.in-Ok.ensures.claims, refl),
       subst (λ (p : ShelfState × List NamedClaim). All (λ (note : SessionNote g.row.D-Link.Denot). note.outcome ≡ Accepted
-          → ShowsClaim p.0.told (service_of_many ask p.1) note) notes) (λ i. (c.in-Ok.ensures.quiet i, c.deref.ensures.value i)) holds,
+          → ShowsClaim p.0.told (service_of_many ask p.1) note) notes) (λ i. (c.in-Ok.ensures.quiet i, c.as_slice.ensures.value i)) holds,
     )) c.run_service.ensures.headline
 
 pub returns-clause-once : goal.returns-clause-once
 returns-clause-once g c =
-    let ask = many_words c.args.words.now in
+    let ask = serve_many_of c.args.ask in
     let claims = c.in-Ok.claims.items in
-    let disk = disk_change (g.B.Disk.state c.args.journal) (g.B.Disk.state c.run_service.result.journal) in
+    let disk = disk_change (g.B.Disk.state c.args.ports.journal) (g.B.Disk.state c.run_service.result.journal) in
     of_notes c.run_service.result.part _ _ (λ notes holds. (
       service_of_many ask claims,
       (claims, c.in-Ok.ensures.claims, refl),
       subst (λ (p : ShelfState × List NamedClaim). GrantsOnce {L = g.row.D-Link.Denot} p.0.told (service_of_many ask p.1) notes disk)
-          (λ i. (c.in-Ok.ensures.quiet i, c.deref.ensures.value i)) holds,
+          (λ i. (c.in-Ok.ensures.quiet i, c.as_slice.ensures.value i)) holds,
     )) c.run_service.ensures.once

@@ -9,6 +9,7 @@ use Rattle.zk_model.specs.Bytes.{AreBytes}
 use Rattle.zk_model.specs.Circuit.{Circuit}
 use Rattle.zk_model.specs.HonestProver.{IsWitness}
 use Rattle.zk_model.specs.Statement.{Statement, circuit_statement}
+use Rattle.file_commands.specs.Stops.{IsLoaded}
 use Rattle.session_core.specs.Jobs.{prover_from, prover_of}
 use Rattle.session_rehearsal.proofs.Rehearsed.{witness_is}
 use Rattle.zk_cli.proofs.prove_command.load_witness.Given.{Over}
@@ -26,18 +27,19 @@ pub returns-clause-witness : goal.returns-clause-witness
 returns-clause-witness g c =
     let circuit = c.in_ok-circuit.circuit in
     let text = c.in_ok-text.text.items in
-    let public = c.args.words.now.public.now in
-    let bits = c.args.words.now.bits.now in
-    let outputs = c.args.words.now.outputs.now in
+    let public = c.args.ask.now.public.items in
+    let bits = c.args.ask.now.bits.items in
+    let outputs = c.args.ask.now.outputs.items in
     let wires = c.in_ok-wires.wires.items in
-    let said = stated c.in_ok-claim.claim circuit text _ public outputs c.in_ok-claim.ensures c.digest-digest.ensures in record {
+    let said = stated c.in_ok-claim.claim circuit text _ public outputs
+    (c.in_ok-claim.ensures ∙ (λ i. circuit_statement circuit c.digest-digest.result (c.deref-3.ensures.value i) (c.deref-4.ensures.value i))) c.digest-digest.ensures in record {
       circuit = circuit;
       wires = wires;
       witnessed = record {
         claim = record {
           text = text;
-          loaded = c.in_ok-text.ensures.loaded;
-          says = subst (IsText circuit) c.deref.ensures.value c.in_ok-circuit.ensures.says;
+          loaded = subst (λ (name : List ℕ). IsLoaded (g.F.Shelf.state c.args.shelf.now).told name text) c.deref.ensures c.in_ok-text.ensures.loaded;
+          says = subst (IsText circuit) c.deref-2.ensures.value c.in_ok-circuit.ensures.says;
           few = c.in_ok-wires.ensures.few;
           count = c.in_ok-wires.ensures.count;
           statement_is = said;
@@ -50,17 +52,18 @@ returns-clause-witness g c =
       };
       proves = λ file.
           subst (λ (s : Statement). prover_from s c.in_ok-inputs.inputs.items file ≡ prover_of s wires file) (sym said)
-          (ap (λ (values : List ℕ). prover_from (circuit_statement circuit (sha256 text) public outputs) values file) c.in_ok-inputs.ensures
+          (ap (λ (values : List ℕ). prover_from (circuit_statement circuit (sha256 text) public outputs) values file) (c.in_ok-inputs.ensures ∙ ap (map from_bit) c.deref-5.ensures.value)
           ∙ c.input_bits_prove.ensures circuit (sha256 text) public outputs bits wires file c.in_ok-circuit.ensures.says.well_formed c.in_ok-wires.ensures.few c.in_ok-wires.ensures.wires);
     }
 
 pub returns-clause-inputs : goal.returns-clause-inputs
 returns-clause-inputs g c =
-    let public = c.args.words.now.public.now in
-    let bits = c.args.words.now.bits.now in
+    let public = c.args.ask.now.public.items in
+    let bits = c.args.ask.now.bits.items in
     let whole = length-append public bits in
     let inputs = c.in_ok-wires.ensures.inputs in
     let all : length bits ≡ c.in_ok-circuit.circuit.inputs - length public = omega (arith, whole, inputs) in
-    let said = stated c.in_ok-claim.claim c.in_ok-circuit.circuit c.in_ok-text.text.items _ public c.args.words.now.outputs.now
-    c.in_ok-claim.ensures c.digest-digest.ensures in
-    ap length c.in_ok-inputs.ensures ∙ length-map bits from_bit ∙ all ∙ sym (ap (λ (s : Statement). s.program.inputs) said)
+    let said = stated c.in_ok-claim.claim c.in_ok-circuit.circuit c.in_ok-text.text.items _ public c.args.ask.now.outputs.items
+    (c.in_ok-claim.ensures ∙ (λ i. circuit_statement c.in_ok-circuit.circuit c.digest-digest.result (c.deref-3.ensures.value i) (c.deref-4.ensures.value i)))
+    c.digest-digest.ensures in
+    ap length (c.in_ok-inputs.ensures ∙ ap (map from_bit) c.deref-5.ensures.value) ∙ length-map bits from_bit ∙ all ∙ sym (ap (λ (s : Statement). s.program.inputs) said)

@@ -5,10 +5,11 @@ use Rattle.zk_model.specs.Statement.{Statement}
 use Rattle.zk_port.specs.Files.{Files}
 use Rattle.session_core.specs.Jobs.{ProverJob, prover_from}
 use Rattle.command_words.specs.BitWords.{Bits}
+use Rattle.command_words.specs.Commands.{known_bits, prove_of}
 use Rattle.command_words.specs.Words.{ProveAsk}
 use Rattle.file_commands.proofs.Journals.{untouched}
 use Rattle.file_commands.specs.Stops.{IsProverFileAt}
-use Rattle.zk_cli.specs.ProveRuns.{HasWitness, IsProveJob, prove_words}
+use Rattle.zk_cli.specs.ProveRuns.{HasWitness, IsProveJob}
 use Rattle.zk_cli.proofs.prove_command.prove_files.Goals as goal
 
 -- a job with such inputs is what was asked
@@ -26,9 +27,9 @@ pub returns-clause-holds : goal.returns-clause-holds
 returns-clause-holds g c =
     let has = c.in-Ok.ensures.witness in
     let job = c.new-job.ensures.job ∙ (λ i. prover_from (c.statement-statement.ensures i) (c.deref.ensures.value i) c.in-Ok.loaded.1) in
-    let asked = is_prove_job (g.F.Shelf.state c.args.shelf.now).told (prove_words c.args.words.now) c.in-Ok.loaded.0.claim c.in-Ok.loaded.0.inputs.items
+    let asked = is_prove_job (g.F.Shelf.state c.args.shelf.now).told (prove_of known_bits c.args.ask.now) c.in-Ok.loaded.0.claim c.in-Ok.loaded.0.inputs.items
     c.in-Ok.loaded.1 c.new-job.result has c.in-Ok.ensures.file job in
     IfOk-weaker c.prove_job.result _ _ (λ r held. record { circuit = has.circuit; job = c.new-job.result; proved = asked; holds = held }) c.prove_job.ensures.holds
 
 pub returns-clause-stop : goal.returns-clause-stop
-returns-clause-stop g c = let has = c.in-Ok.ensures.witness in let job = c.new-job.ensures.job ∙ (λ i. prover_from (c.statement-statement.ensures i) (c.deref.ensures.value i) c.in-Ok.loaded.1) in let asked = is_prove_job (g.F.Shelf.state c.args.shelf.now).told (prove_words c.args.words.now) c.in-Ok.loaded.0.claim c.in-Ok.loaded.0.inputs.items c.in-Ok.loaded.1 c.new-job.result has c.in-Ok.ensures.file job in IfErr-weaker c.prove_job.result _ _ (λ r stopped. inr (has.circuit, c.new-job.result, asked, stopped)) c.prove_job.ensures.stop
+returns-clause-stop g c = let has = c.in-Ok.ensures.witness in let job = c.new-job.ensures.job ∙ (λ i. prover_from (c.statement-statement.ensures i) (c.deref.ensures.value i) c.in-Ok.loaded.1) in let asked = is_prove_job (g.F.Shelf.state c.args.shelf.now).told (prove_of known_bits c.args.ask.now) c.in-Ok.loaded.0.claim c.in-Ok.loaded.0.inputs.items c.in-Ok.loaded.1 c.new-job.result has c.in-Ok.ensures.file job in IfErr-weaker c.prove_job.result _ _ (λ r stopped. inr (has.circuit, c.new-job.result, asked, stopped)) c.prove_job.ensures.stop

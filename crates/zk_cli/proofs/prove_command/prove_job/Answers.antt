@@ -1,10 +1,11 @@
-use Rattle.std.proofs.Common.{◌≡◌, ℕ, List, Some, sym, ap, ◌∙◌, subst}
+use Rattle.std.proofs.Common.{◌≡◌, ℕ, List, Some, string_bytes, sym, ap, ◌∙◌, subst}
 use Rattle.zk_model.specs.Files.{ProverFile}
 use Rattle.lease_journal.specs.Twins.{HoldsTwin}
 use Rattle.zk_model.specs.declared.JournalKind.TheVariants as kind
 use Rattle.claim_store.specs.Claims.{AreClaims, SaysClaims}
+use Rattle.zk_port.specs.Doors.{after_connect}
 use Rattle.file_commands.specs.ClaimedUnits.{KeepsClaims}
-use Rattle.file_commands.specs.Journals.{disk_change, own_journal}
+use Rattle.file_commands.specs.Journals.{OpensJournal, disk_change, own_journal}
 use Rattle.zk_cli.proofs.Claiming.{by_store, keeps_claims}
 use Rattle.zk_cli.proofs.prove_command.prove_job.Goals as goal
 
@@ -18,7 +19,7 @@ returns-clause-holds g c =
     let claimant = c.prove_session-note.new.claimant in
     let file = c.args.job.now.file in
     let same = c.file.ensures.file in
-    let name = own_journal c.args.words.now.file.now in
+    let name = own_journal (string_bytes c.args.ask.now.file) in
     record {
       claim = record { asked = claimant.asked; answer = claimant.answer };
       is_note = record {
@@ -39,10 +40,12 @@ returns-clause-holds g c =
         ended = held.ended;
         complete = held.complete;
       };
-      connected = c.in-Ok-connect.ensures.connects;
+      connected = c.in-Ok-connect.ensures.connects
+          ∙ ap (λ (address : List ℕ). after_connect address c.args.ask.now.timeout (g.D.Door.state c.args.door.now)) c.deref-2.ensures;
       kept = subst (λ (d : g.row.B.Denot). KeepsClaims name file.id file.params.total claimant.asked claimant.answer
           (disk_change old (g.B.Disk.state d))) (sym c.close-2.ensures.disk)
-          (keeps_claims g.B.Disk.state old store name file.id file.params.total opened.since opened.opens
+          (keeps_claims g.B.Disk.state old store name file.id file.params.total opened.since
+          (subst (λ (name : List ℕ). OpensJournal (own_journal name) (disk_change old (g.B.Disk.state store.disk))) c.deref.ensures opened.opens)
           (subst (λ (f : ProverFile). (bytes : List ℕ) → old.content ≡ Some bytes → HoldsTwin kind.Claims f.id f.params.total store.begin store.slots bytes) same opened.holds)
           (subst (λ (f : ProverFile). (bytes : List ℕ) → old.content ≡ Some bytes → SaysClaims f.params.total store.begin store.slots store.claims bytes) same opened.says)
           opened.only later opened.whole (opened.total ∙ ap (λ (f : ProverFile). f.params.total) same) opened.small

@@ -1,6 +1,7 @@
 use Rattle.std.proofs.Common.{ℕ, subst}
 use Rattle.zk_port.specs.Changes.{change}
-use Rattle.zk_cli.specs.ProveRuns.{proved_line, proved_status, prove_words}
+use Rattle.command_words.specs.Commands.{known_bits, prove_of}
+use Rattle.zk_cli.specs.ProveRuns.{proved_line, proved_status}
 use Rattle.file_commands.specs.Stops.{PrintsMade}
 use Rattle.zk_cli.proofs.ProveOutcomes.{proves}
 use Rattle.zk_cli.proofs.prove_command.run_prove.Goals as goal
@@ -10,17 +11,17 @@ returns-in-Ok g c =
     let note = c.in-Ok.note in
     let sink = change (g.O.Sink.state c.args.out.now) (g.O.Sink.state c.say_proved-status.new.out) in
     record {
-      proves = proves g.D.Link.Link.state c.one_circuit.ensures c.claims_start_again.ensures (prove_words c.args.words.now) _ _ _ _ (
+      proves = rw c.end_with.ensures (proves g.D.Link.Link.state c.one_circuit.ensures c.claims_start_again.ensures (prove_of known_bits c.args.ask.now) _ _ _ _ (
         c.in-Ok.ensures.holds,
         subst (λ (count : ℕ). PrintsMade (proved_status note.outcome) (proved_line note.granted count note.outcome) c.say_proved-status.result sink)
             c.faults-count.ensures c.say_proved-status.ensures,
       )
-          c.in-Ok.ensures.kept;
+          c.in-Ok.ensures.kept);
     }
 
 pub returns-in-Err : goal.returns-in-Err
 returns-in-Err g c = record {
-  proves = proves g.D.Link.Link.state c.one_circuit.ensures c.claims_start_again.ensures (prove_words c.args.words.now) _ _ _ _
+  proves = rw c.end.ensures (proves g.D.Link.Link.state c.one_circuit.ensures c.claims_start_again.ensures (prove_of known_bits c.args.ask.now) _ _ _ _
       (record { stop = c.in-Err.refusal; cause = c.in-Err.ensures.stop; prints = c.say_stop.ensures })
-      c.in-Err.ensures.kept;
+      c.in-Err.ensures.kept);
 }

@@ -13,14 +13,14 @@ first_difference-requires c =
     let left = length-drop (output_wire circuit 0) wires in
     let whole = c.in_ok-wires.ensures.wires.whole in
     let fits = c.wires-wires.ensures.rules.well_formed.outputs_within in
-    let claimed : length c.args.words.now.outputs.now ≡ circuit.outputs = search rules in
+    let claimed : length c.args.ask.now.outputs.items ≡ circuit.outputs = search rules in
     omega (arith, same, left, whole, fits, claimed)
 
 pub returns-in-Some-clause-stop : goal.returns-in-Some-clause-stop
 returns-in-Some-clause-stop c =
     let circuit = c.args.circuit.now in
-    let bits = c.args.words.now.public.now ++ c.args.words.now.bits.now in
-    let claimed = c.args.words.now.outputs.now in
+    let bits = c.args.ask.now.public.items ++ c.args.ask.now.bits.items in
+    let claimed = c.args.ask.now.outputs.items in
     let wires = c.in_ok-wires.wires.items in
     let given = drop (output_wire circuit 0) wires in
     let last = c.output_bits.ensures ∙ ap (drop (output_wire circuit 0)) c.deref.ensures.value in
@@ -30,5 +30,5 @@ returns-in-Some-clause-stop c =
       gives = gives;
       only = λ others by. c.one_outcome.ensures circuit bits others given c.wires-wires.ensures.rules.well_formed by gives;
       count = search rules;
-      differs = subst (λ (shown : List Bool). BitDiffersFirst c.in-Some.output shown claimed) last c.in-Some.ensures.first;
+      differs = subst (λ (q : List Bool × List Bool). BitDiffersFirst c.in-Some.output q.0 q.1) (λ i. (last i, c.deref-2.ensures.value i)) c.in-Some.ensures.first;
     }

@@ -26,12 +26,12 @@ returns-in-Ok-Some-clause-quiet g c =
     c.in-Ok-Some.ensures.alike) c.run_words.ensures.quiet
 
 pub returns-in-Err-clause-meets : goal.returns-in-Err-clause-meets
-returns-in-Err-clause-meets g c = λ ask is_asked. inr (lacks_bits g.F.Shelf.state g.D.Door.state g.D.Link.Link.state ask NoMemory c.say_memory.result
+returns-in-Err-clause-meets g c = λ ask is_asked. inr (rw c.end-in-Err.ensures (lacks_bits g.F.Shelf.state g.D.Door.state g.D.Link.Link.state ask NoMemory c.say_memory.result
     (change (g.O.Sink.state c.args.out.now) (g.O.Sink.state c.say_memory.new.out)) c.args.shelf.now c.args.shelf.now c.args.journal c.args.door
-    (inl refl) (loads_nothing (IsGivenName ask) (g.F.Shelf.state c.args.shelf.now)) (inl c.say_memory.ensures))
+    (inl refl) (loads_nothing (IsGivenName ask) (g.F.Shelf.state c.args.shelf.now)) (inl c.say_memory.ensures)))
 
 pub returns-in-Err-clause-headline : goal.returns-in-Err-clause-headline
-returns-in-Err-clause-headline g c = λ ask is_asked. inr refl
+returns-in-Err-clause-headline g c = λ ask is_asked. inr (rw c.end-in-Err.ensures refl)
 
 pub returns-in-Err-clause-once : goal.returns-in-Err-clause-once
-returns-in-Err-clause-once g c = λ ask is_asked. inr refl
+returns-in-Err-clause-once g c = λ ask is_asked. inr (rw c.end-in-Err.ensures refl)

@@ -4,29 +4,29 @@ use Rattle.zk_model.specs.Statement.{Statement}
 use Rattle.zk_model.specs.declared.limits.TheConstants.{MAX_UNITS}
 use Rattle.zk_port.specs.Changes.{change}
 use Rattle.session_core.specs.Jobs.{VerifierJob, VerifierJobs, all_jobs, units_of_job}
-use Rattle.zk_cli.specs.ServeRuns.{TakeFewUnits, AreServeJobs, FitStop, IsStatementOf, service_words}
+use Rattle.zk_cli.specs.ServeRuns.{TakeFewUnits, AreServeJobs, FitStop, IsStatementOf, service_of}
 use Rattle.zk_cli.proofs.Loading.{are_jobs, job_over, lacks_jobs, err_then, lacks_memory, ok_then, parted_jobs}
 use Rattle.zk_cli.proofs.Pairs.{zip_length}
 use Rattle.zk_cli.proofs.serve_command.serve_files.Goals as goal
 
 pub returns-in_default-clause-stop : goal.returns-in_default-clause-stop
 returns-in_default-clause-stop g c =
-    lacks_memory (service_words c.args.words.now) (change (g.F.Shelf.state c.args.shelf.now) (g.F.Shelf.state c.load_files.new.shelf))
-    (g.B.Disk.state c.args.journal) (g.D.Door.state c.args.door) c.requires.some
+    lacks_memory (service_of c.args.service.now) (change (g.F.Shelf.state c.args.shelf.now) (g.F.Shelf.state c.load_files.new.shelf))
+    (g.B.Disk.state c.args.ports.journal) (g.D.Door.state c.args.ports.door) c.requires.some
 
 pub returns-in-Err-fit_jobs-clause-stop : goal.returns-in-Err-fit_jobs-clause-stop
 returns-in-Err-fit_jobs-clause-stop g c =
-    let service = service_words c.args.words.now in
+    let service = service_of c.args.service.now in
     let file = c.in-Ok.files.file in
     let stated : c.deref-2.result.now ≡ c.in-Ok.files.claims.items = c.deref-2.ensures.value ∙ c.in-Ok-statements_of.ensures ∙ c.deref.ensures.value in
     lacks_jobs service (change (g.F.Shelf.state c.args.shelf.now) (g.F.Shelf.state c.load_files.new.shelf))
-    (g.B.Disk.state c.args.journal) (g.D.Door.state c.args.door) file c.in-Ok.files.claims.items c.in-Ok.ensures.file c.in-Ok.ensures.claims
+    (g.B.Disk.state c.args.ports.journal) (g.D.Door.state c.args.ports.door) file c.in-Ok.files.claims.items c.in-Ok.ensures.file c.in-Ok.ensures.claims
     c.requires.some c.requires.most c.in-Err-fit_jobs.refusal
     (subst (λ (s : List Statement). FitStop (map (job_over service file) s) c.in-Err-fit_jobs.refusal) stated c.in-Err-fit_jobs.ensures.stop)
 
 pub unreachable-requires : goal.unreachable-requires
 unreachable-requires g c =
-    let service = service_words c.args.words.now in
+    let service = service_of c.args.service.now in
     let stated : c.deref-2.result.now ≡ c.in-Ok.files.claims.items = c.deref-2.ensures.value ∙ c.in-Ok-statements_of.ensures ∙ c.deref.ensures.value in
     let size : length c.as_slice.result.now ≡ length c.deref-2.result.now =
     ap length c.as_slice.ensures.value ∙ ap length c.in-Ok-fit_jobs.ensures.jobs ∙ length-map c.deref-2.result.now (job_over service c.in-Ok.files.file) in
@@ -36,7 +36,7 @@ unreachable-requires g c =
 
 pub new-jobs-requires : goal.new-jobs-requires
 new-jobs-requires g c =
-    let service = service_words c.args.words.now in
+    let service = service_of c.args.service.now in
     let file = c.in-Ok.files.file in
     let stated : c.deref-2.result.now ≡ c.in-Ok.files.claims.items = c.deref-2.ensures.value ∙ c.in-Ok-statements_of.ensures ∙ c.deref.ensures.value in
     let jobs : VerifierJobs = record { first = c.first-item.result; others = take (length c.as_slice.result.now - 1) (drop 1 c.as_slice.result.now) } in
@@ -58,7 +58,7 @@ serve_jobs-requires-clause-few g c κs within =
 
 pub returns-clause-leads : goal.returns-clause-leads
 returns-clause-leads g c =
-    let service = service_words c.args.words.now in
+    let service = service_of c.args.service.now in
     let file = c.in-Ok.files.file in
     let stated : c.deref-2.result.now ≡ c.in-Ok.files.claims.items = c.deref-2.ensures.value ∙ c.in-Ok-statements_of.ensures ∙ c.deref.ensures.value in
     let are : all_jobs c.new-jobs.result ≡ map (job_over service file) c.in-Ok.files.claims.items =
@@ -70,4 +70,4 @@ returns-clause-leads g c =
     ok_then _ _ c.serve_jobs.result (λ value leads. record { jobs = c.new-jobs.result; served = served; leads = leads }) c.serve_jobs.ensures.leads
 
 pub returns-clause-stop : goal.returns-clause-stop
-returns-clause-stop g c = let service = service_words c.args.words.now in let file = c.in-Ok.files.file in let stated : c.deref-2.result.now ≡ c.in-Ok.files.claims.items = c.deref-2.ensures.value ∙ c.in-Ok-statements_of.ensures ∙ c.deref.ensures.value in let are : all_jobs c.new-jobs.result ≡ map (job_over service file) c.in-Ok.files.claims.items = ap all_jobs c.new-jobs.ensures ∙ parted_jobs c.as_slice.result.now c.first-item.result c.in-len1-up.len_at_least c.first-item.is ∙ c.as_slice.ensures.value ∙ c.in-Ok-fit_jobs.ensures.jobs ∙ ap (map (job_over service file)) stated in let served : AreServeJobs (g.F.Shelf.state c.args.shelf.now).told service c.new-jobs.result = are_jobs (g.F.Shelf.state c.args.shelf.now).told service file c.in-Ok.files.claims.items c.new-jobs.result c.in-Ok.ensures.file c.in-Ok.ensures.claims c.requires.most are in err_then _ _ c.serve_jobs.result (λ stopped opening. inr (c.new-jobs.result, served, opening)) c.serve_jobs.ensures.stop
+returns-clause-stop g c = let service = service_of c.args.service.now in let file = c.in-Ok.files.file in let stated : c.deref-2.result.now ≡ c.in-Ok.files.claims.items = c.deref-2.ensures.value ∙ c.in-Ok-statements_of.ensures ∙ c.deref.ensures.value in let are : all_jobs c.new-jobs.result ≡ map (job_over service file) c.in-Ok.files.claims.items = ap all_jobs c.new-jobs.ensures ∙ parted_jobs c.as_slice.result.now c.first-item.result c.in-len1-up.len_at_least c.first-item.is ∙ c.as_slice.ensures.value ∙ c.in-Ok-fit_jobs.ensures.jobs ∙ ap (map (job_over service file)) stated in let served : AreServeJobs (g.F.Shelf.state c.args.shelf.now).told service c.new-jobs.result = are_jobs (g.F.Shelf.state c.args.shelf.now).told service file c.in-Ok.files.claims.items c.new-jobs.result c.in-Ok.ensures.file c.in-Ok.ensures.claims c.requires.most are in err_then _ _ c.serve_jobs.result (λ stopped opening. inr (c.new-jobs.result, served, opening)) c.serve_jobs.ensures.stop

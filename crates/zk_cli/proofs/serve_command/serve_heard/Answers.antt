@@ -4,7 +4,7 @@ use Rattle.zk_port.specs.Changes.{change}
 use Rattle.session_verifier.specs.declared.note.SessionNote.{SessionNote}
 use Rattle.file_commands.specs.Journals.{disk_change}
 use Rattle.file_commands.specs.Effects.{effects}
-use Rattle.zk_cli.specs.ServeRuns.{IsLoadedName, IsServeName, LeadsFiles, service_words}
+use Rattle.zk_cli.specs.ServeRuns.{IsLoadedName, IsServeName, LeadsFiles, service_of}
 use Rattle.session_verifier.specs.ServiceLogs.{HaveApartNames, IsLogName, SaysService, TriesLogs}
 use Rattle.file_commands.proofs.Asking.{asks_among}
 use Rattle.zk_cli.proofs.LogNames.{apart_names}
@@ -15,15 +15,15 @@ use Rattle.zk_cli.proofs.serve_command.serve_heard.Given.{Over}
 use Rattle.zk_cli.proofs.serve_command.serve_heard.Goals as goal
 
 -- the sessions in their order
-leads : (g : Over) (c : goal.After-deref g) → LeadsFiles {L = g.row.D-Link.Denot} g.D.Link.Link.state (service_words c.args.words.now)
+leads : (g : Over) (c : goal.After-deref g) → LeadsFiles {L = g.row.D-Link.Denot} g.D.Link.Link.state (service_of c.args.service.now)
     c.order_notes.new.notes.items c.in-Ok.led.served.door_failed c.in-Ok.led.served.memory_failed (g.F.Shelf.state c.args.shelf.now).told
-    (disk_change (g.B.Disk.state c.args.journal) (g.B.Disk.state c.in-Ok.led.served.disk))
-    (change (g.D.Door.state c.args.door) (g.D.Door.state c.in-Ok.led.served.door))
+    (disk_change (g.B.Disk.state c.args.ports.journal) (g.B.Disk.state c.in-Ok.led.served.disk))
+    (change (g.D.Door.state c.args.ports.door) (g.D.Door.state c.in-Ok.led.served.door))
 leads g c =
-    let service = service_words c.args.words.now in
+    let service = service_of c.args.service.now in
     let told = (g.F.Shelf.state c.args.shelf.now).told in
-    let disk = disk_change (g.B.Disk.state c.args.journal) (g.B.Disk.state c.in-Ok.led.served.disk) in
-    let door = change (g.D.Door.state c.args.door) (g.D.Door.state c.in-Ok.led.served.door) in
+    let disk = disk_change (g.B.Disk.state c.args.ports.journal) (g.B.Disk.state c.in-Ok.led.served.disk) in
+    let door = change (g.D.Door.state c.args.ports.door) (g.D.Door.state c.in-Ok.led.served.door) in
     files_permuted g.D.Link.Link.state service c.in-Ok.led.served.notes.items c.order_notes.new.notes.items c.in-Ok.led.served.door_failed c.in-Ok.led.served.memory_failed told disk door
     c.order_notes.ensures.permutation c.in-Ok.ensures.leads
 
@@ -35,7 +35,7 @@ say_service-status-requires g c = record {
 
 pub returns-in-Ok-clause-serves : goal.returns-in-Ok-clause-serves
 returns-in-Ok-clause-serves g c =
-    let service = service_words c.args.words.now in
+    let service = service_of c.args.service.now in
     let old = g.F.Shelf.state c.args.shelf.now in
     let mid = g.F.Shelf.state c.serve_files.new.shelf in
     let new = g.F.Shelf.state c.say_service-status.new.shelf in
@@ -48,29 +48,32 @@ returns-in-Ok-clause-serves g c =
     let said : SaysService {L = g.row.D-Link.Denot} service.options.logs c.order_notes.new.notes.items c.in-Ok.led.served.door_failed c.in-Ok.led.served.memory_failed run =
     subst (λ (p : List (SessionNote g.row.D-Link.Denot) × Option (List ℕ)). SaysService p.1 p.0 c.in-Ok.led.served.door_failed c.in-Ok.led.served.memory_failed run)
     (λ i. (c.deref.ensures.value i, prefix i)) (c.say_service-status.ensures old tried) in
-    serves g.D.Link.Link.state c.one_circuit.ensures c.ceilings_start_again.ensures service _ _ _ run
+    rw c.end_with.ensures (serves g.D.Link.Link.state c.one_circuit.ensures c.ceilings_start_again.ensures service _ _ _ run
     (record {
       door_failed = c.in-Ok.led.served.door_failed;
       memory_failed = c.in-Ok.led.served.memory_failed;
-      leads = leads g c.before;
+      leads = leads g c.before.before;
       ordered = c.order_notes.ensures.ordered;
       says = said;
     })
     said.logs.tried.kept.others
-    (asks_among (IsLogName service.options.logs) (IsServeName service) (change old new) (λ name is. inr is) said.logs.tried.kept.asked)
+    (asks_among (IsLogName service.options.logs) (IsServeName service) (change old new) (λ name is. inr is) said.logs.tried.kept.asked))
 
 pub returns-in-Ok-clause-headline : goal.returns-in-Ok-clause-headline
 returns-in-Ok-clause-headline g c =
-    headlines g.D.Link.Link.state c.extracted_shows_outputs.ensures _ _ _ _ _ _ _ (leads g c.before)
+    rw c.end_with.ensures
+    (headlines g.D.Link.Link.state c.extracted_shows_outputs.ensures _ _ _ _ _ _ _ (leads g c.before.before))
 
 pub returns-in-Ok-clause-once : goal.returns-in-Ok-clause-once
-returns-in-Ok-clause-once g c = grants_once g.D.Link.Link.state _ _ _ _ _ _ _ (leads g c.before) c.order_notes.ensures.ordered
+returns-in-Ok-clause-once g c =
+    rw c.end_with.ensures
+    (grants_once g.D.Link.Link.state _ _ _ _ _ _ _ (leads g c.before.before) c.order_notes.ensures.ordered)
 
 pub returns-in-Err-clause-serves : goal.returns-in-Err-clause-serves
 returns-in-Err-clause-serves g c =
-    let service = service_words c.args.words.now in
+    let service = service_of c.args.service.now in
     let shelf = change (g.F.Shelf.state c.args.shelf.now) (g.F.Shelf.state c.serve_files.new.shelf) in
-    serves g.D.Link.Link.state c.one_circuit.ensures c.ceilings_start_again.ensures service _ _ _ _ (
+    rw c.end.ensures (serves g.D.Link.Link.state c.one_circuit.ensures c.ceilings_start_again.ensures service _ _ _ _ (
       record {
         stop = c.in-Err.field-0.refusal;
         cause = c.in-Err.ensures.stop;
@@ -79,4 +82,4 @@ returns-in-Err-clause-serves g c =
       c.in-Err.ensures.kept,
     )
     (others_same (IsLogName service.options.logs) shelf.old.told shelf.new.told c.in-Err.ensures.kept.told)
-    (asks_among (IsLoadedName service) (IsServeName service) shelf (λ name is. inl is) c.in-Err.ensures.kept.asked)
+    (asks_among (IsLoadedName service) (IsServeName service) shelf (λ name is. inl is) c.in-Err.ensures.kept.asked))
