@@ -1,5 +1,6 @@
 // Files that are loaded, and circuits that stand as such.
 ghost use Rattle.std.specs.Prelude.{◌≡◌, ◌⊎◌, ◌≤◌, length, IfOk, IfErr, OnOk};
+ghost use Rattle.sha2.specs.Sha256.{sha256};
 ghost use Rattle.zk_model.specs.Bristol.{IsText};
 ghost use Rattle.zk_model.specs.declared.ReadFault.{ReadFault};
 ghost use Rattle.zk_port.specs.Changes.{change};
@@ -14,6 +15,7 @@ use crate::refusal::Refusal;
 use bristol_reader::{Circuit, ReadError, read};
 use sha2::{Digest, Sha256};
 use std::alloc::Global;
+use std::thread::{self, Threads};
 use zk_model::FILE_LIMIT;
 use zk_port::{LoadFault, Shelf};
 
@@ -68,13 +70,6 @@ pub fn load_circuit<F: Shelf>(alloc: Global, shelf: &mut F, name: &str) -> Resul
     read_circuit(alloc, &text)
 }
 
-/// A circuit about whose outputs a claim is, with SHA-256 of its text.
-#[derive(Drop)]
-pub struct ClaimedCircuit {
-    pub circuit: Circuit,
-    pub digest: [u8; 32],
-}
-
 /// Whether as many outputs are claimed as the circuit has.
 fn check_outputs(circuit: &Circuit, outputs: &[bool]) -> Result<(), Refusal>
     ensures fits { OnOk result (length outputs.now ≡ circuit.now.outputs) }
@@ -87,8 +82,50 @@ fn check_outputs(circuit: &Circuit, outputs: &[bool]) -> Result<(), Refusal>
     Ok(())
 }
 
+/// A circuit about whose outputs a claim is, with SHA-256 of its text.
+#[derive(Drop)]
+pub struct ClaimedCircuit {
+    pub circuit: Circuit,
+    pub digest: [u8; 32],
+}
+
+/// Texts from this length on are worth a thread for their digest.
+const LONG_TEXT: usize = 1 << 20;
+
+/// The circuit that a text says, with SHA-256 of the text, which of a long one another thread makes meanwhile.
+pub fn read_and_digest<R: Threads + Sync>(
+    rt: &R,
+    alloc: Global,
+    text: &[u8],
+) -> Result<ClaimedCircuit, Refusal>
+    ensures says { IfOk result (λ claimed. IsText claimed.circuit text.now) }
+    ensures digest { IfOk result (λ claimed. claimed.digest ≡ sha256 text.now) }
+    ensures stop { IfErr result (λ stop. (stop ≡ stops.NoMemory)
+        ⊎ ((fault : ReadFault) × IsOnlyFault text.now fault × (stop ≡ stops.BadText fault))) }
+{
+    if text.len() < LONG_TEXT {
+        let circuit = read_circuit(alloc, text)?;
+        let digest = Sha256::digest(text);
+        return Ok(ClaimedCircuit { circuit, digest });
+    }
+    let (digest, circuit) = thread::join(
+        rt,
+        || -> [u8; 32]
+            ensures { result ≡ sha256 text.entry.now }
+        { Sha256::digest(text) },
+        || -> Result<Circuit, Refusal>
+            ensures { IfOk result (λ circuit. IsText circuit text.entry.now)
+                × IfErr result (λ stop. (stop ≡ stops.NoMemory)
+                ⊎ ((fault : ReadFault) × IsOnlyFault text.entry.now fault × (stop ≡ stops.BadText fault))) }
+        { read_circuit(alloc, text) },
+    );
+    let circuit = circuit?;
+    Ok(ClaimedCircuit { circuit, digest })
+}
+
 /// The circuit that the file of this name says, of which with these public bits these outputs may be claimed.
-pub fn load_claimed<F: Shelf>(
+pub fn load_claimed<R: Threads + Sync, F: Shelf>(
+    rt: &R,
     alloc: Global,
     shelf: &mut F,
     name: &str,
@@ -104,9 +141,8 @@ pub fn load_claimed<F: Shelf>(
     ensures quiet { OnOk result (F.state shelf.new ≡ F.state shelf.old) }
 {
     let text = load_file(alloc, shelf, name)?;
-    let circuit = read_circuit(alloc, &text)?;
-    check_public(&circuit, public)?;
-    check_outputs(&circuit, outputs)?;
-    let digest = Sha256::digest(&text);
-    Ok(ClaimedCircuit { circuit, digest })
+    let claimed = read_and_digest(rt, alloc, &text)?;
+    check_public(&claimed.circuit, public)?;
+    check_outputs(&claimed.circuit, outputs)?;
+    Ok(claimed)
 }

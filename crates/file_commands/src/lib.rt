@@ -16,7 +16,8 @@ mod refusal;
 mod saying;
 
 pub use circuit_file::{
-    ClaimedCircuit, check_public, load_circuit, load_claimed, load_file, read_circuit,
+    ClaimedCircuit, check_public, load_circuit, load_claimed, load_file, read_and_digest,
+    read_circuit,
 };
 pub use deal_command::run_deal;
 pub use dealt_file::{load_prover, load_verifier};

@@ -22,6 +22,7 @@ use file_commands::{
 };
 use mersenne_field::Fe;
 use std::alloc::{AllocError, Global};
+use std::thread::Threads;
 use zk_port::{Shelf, Sink};
 
 /// The claim and both dealt files.
@@ -33,7 +34,8 @@ struct AuditedFiles {
 }
 
 /// The claim and both files that the words name.
-fn load_audited<F: Shelf>(
+fn load_audited<R: Threads + Sync, F: Shelf>(
+    rt: &R,
     alloc: Global,
     shelf: &mut F,
     ask: &AuditAsk<String, Vec<bool>>,
@@ -51,7 +53,7 @@ fn load_audited<F: Shelf>(
         (change (F.state shelf.old) (F.state shelf.new)) }
     ensures quiet { OnOk result (F.state shelf.new ≡ F.state shelf.old) }
 {
-    let claimed = load_claimed(alloc, shelf, &ask.circuit, &ask.public, &ask.outputs)?;
+    let claimed = load_claimed(rt, alloc, shelf, &ask.circuit, &ask.public, &ask.outputs)?;
     let prover = load_prover(alloc, shelf, &ask.prover)?;
     let verifier = load_verifier(alloc, shelf, &ask.verifier)?;
     Ok(AuditedFiles {
@@ -73,7 +75,8 @@ fn refusal_of(fault: AuditFault) -> Refusal
 }
 
 /// What is found in the log that the words name.
-fn audit_files<F: Shelf>(
+fn audit_files<R: Threads + Sync, F: Shelf>(
+    rt: &R,
     alloc: Global,
     shelf: &mut F,
     ask: &AuditAsk<String, Vec<bool>>,
@@ -84,7 +87,7 @@ fn audit_files<F: Shelf>(
     ensures kept { OnlyLoads (IsAuditName (audit_of known_bits ask.now))
         (change (F.state shelf.old) (F.state shelf.new)) }
 {
-    let files = load_audited(alloc, shelf, ask)?;
+    let files = load_audited(rt, alloc, shelf, ask)?;
     let log = load_file(alloc, shelf, &ask.log)?;
     let AuditedFiles {
         claimed,
@@ -176,7 +179,8 @@ fn say_finding<O: Sink>(alloc: Global, out: &mut O, finding: &Finding) -> u8
 
 /// `audit CIRCUIT OUTPUTS PROVERFILE VERIFIERFILE LOG [--public BITS]`: says what the log of a session proves to one who has both dealt
 /// files, or why it says nothing, and answers the status.
-pub fn run_audit<F: Shelf, O: Sink>(
+pub fn run_audit<R: Threads + Sync, F: Shelf, O: Sink>(
+    rt: &R,
     alloc: Global,
     shelf: &mut F,
     out: &mut O,
@@ -188,7 +192,7 @@ pub fn run_audit<F: Shelf, O: Sink>(
     one_circuit();
     accepted_logs_are_right();
     one_answer();
-    match audit_files(alloc, shelf, ask) {
+    match audit_files(rt, alloc, shelf, ask) {
         Ok(finding) => say_finding(alloc, out, &finding),
         Err(stop) => say_stop(alloc, out, stop),
     }

@@ -12,6 +12,7 @@ use file_commands::{ClaimedCircuit, Refusal, load_claimed, load_verifier};
 use session_core::CircuitClaim;
 use statement_file::NamedClaim;
 use std::alloc::Global;
+use std::thread::Threads;
 use zk_port::Shelf;
 
 /// What is served: the claims, by their numbers, and the file.
@@ -22,7 +23,8 @@ pub struct ServiceFiles {
 }
 
 /// The claim that the circuit under its name gives the outputs with these public bits.
-fn load_claim<F: Shelf>(
+fn load_claim<R: Threads + Sync, F: Shelf>(
+    rt: &R,
     alloc: Global,
     shelf: &mut F,
     named: &NamedClaim,
@@ -34,13 +36,14 @@ fn load_claim<F: Shelf>(
     ensures quiet { OnOk result (F.state shelf.new ≡ F.state shelf.old) }
 {
     let (public, outputs) = (named.public(), named.outputs());
-    let claimed = load_claimed(alloc, shelf, named.circuit(), public, outputs)?;
+    let claimed = load_claimed(rt, alloc, shelf, named.circuit(), public, outputs)?;
     let ClaimedCircuit { circuit, digest } = claimed;
     Ok(CircuitClaim::new(alloc, circuit, digest, public, outputs)?)
 }
 
 /// The claims of these names, in order, up to the first that can't be had.
-fn load_claims<F: Shelf>(
+fn load_claims<R: Threads + Sync, F: Shelf>(
+    rt: &R,
     alloc: Global,
     shelf: &mut F,
     named: &[NamedClaim],
@@ -53,7 +56,7 @@ fn load_claims<F: Shelf>(
 {
     let mut claims = Vec::new(alloc);
     for name in named {
-        let claim = load_claim(alloc, shelf, name)?;
+        let claim = load_claim(rt, alloc, shelf, name)?;
         match claims.push(claim) {
             Ok(()) => {}
             Err(_) => return Err(Refusal::NoMemory),
@@ -63,7 +66,8 @@ fn load_claims<F: Shelf>(
 }
 
 /// The claims and the file that are named.
-pub fn load_files<F: Shelf>(
+pub fn load_files<R: Threads + Sync, F: Shelf>(
+    rt: &R,
     alloc: Global,
     shelf: &mut F,
     service: &Service<'_>,
@@ -78,7 +82,7 @@ pub fn load_files<F: Shelf>(
         (change (F.state shelf.old) (F.state shelf.new)) }
     ensures quiet { OnOk result (F.state shelf.new ≡ F.state shelf.old) }
 {
-    let claims = load_claims(alloc, shelf, service.statements)?;
+    let claims = load_claims(rt, alloc, shelf, service.statements)?;
     let file = load_verifier(alloc, shelf, &service.file)?;
     Ok(ServiceFiles { claims, file })
 }

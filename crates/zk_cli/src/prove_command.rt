@@ -19,12 +19,12 @@ use claim_store::claims_start_again;
 use command_words::ProveAsk;
 use dealer_files::ProverFile;
 use file_commands::{
-    Refusal, check_public, load_file, load_prover, open_claims, read_circuit, say_stop,
+    ClaimedCircuit, Refusal, check_public, load_file, load_prover, open_claims, read_and_digest,
+    say_stop,
 };
 use mersenne_field::Fe;
 use session_core::{CircuitClaim, ProverJob, elements_of, input_bits_prove};
 use session_prover::{ProverNote, StoreClaimant, prove_session};
-use sha2::{Digest, Sha256};
 use std::alloc::{AllocError, Global};
 use std::thread::Threads;
 use zk_port::{Access, Disk, Door, PortFault, Shelf, Sink};
@@ -121,7 +121,8 @@ fn satisfying_wires(
 }
 
 /// The claim that the words name, and the values that prove it.
-fn load_witness<F: Shelf>(
+fn load_witness<R: Threads + Sync, F: Shelf>(
+    rt: &R,
     alloc: Global,
     shelf: &mut F,
     ask: &ProveAsk<String, Vec<bool>>,
@@ -138,11 +139,11 @@ fn load_witness<F: Shelf>(
     bits_solve();
     input_bits_prove();
     let text = load_file(alloc, shelf, &ask.circuit)?;
-    let circuit = read_circuit(alloc, &text)?;
+    let claimed = read_and_digest(rt, alloc, &text)?;
+    drop(text);
+    let ClaimedCircuit { circuit, digest } = claimed;
     let wires = satisfying_wires(alloc, &circuit, ask)?;
     drop(wires);
-    let digest = Sha256::digest(&text);
-    drop(text);
     let claim = CircuitClaim::new(alloc, circuit, digest, &ask.public, &ask.outputs)?;
     let inputs = elements_of(alloc, &ask.bits)?;
     Ok(Witness { claim, inputs })
@@ -187,7 +188,8 @@ fn prove_job<R: Threads + Sync, D: Door, B: Disk>(
 }
 
 /// What the words name: the claim with its proof, and the prover's file.
-fn load_all<F: Shelf>(
+fn load_all<R: Threads + Sync, F: Shelf>(
+    rt: &R,
     alloc: Global,
     shelf: &mut F,
     ask: &ProveAsk<String, Vec<bool>>,
@@ -203,7 +205,7 @@ fn load_all<F: Shelf>(
         (change (F.state shelf.old) (F.state shelf.new)) }
     ensures quiet { OnOk result (F.state shelf.new ≡ F.state shelf.old) }
 {
-    let witness = load_witness(alloc, shelf, ask)?;
+    let witness = load_witness(rt, alloc, shelf, ask)?;
     let file = load_prover(alloc, shelf, &ask.file)?;
     Ok((witness, file))
 }
@@ -228,7 +230,7 @@ fn prove_files<R: Threads + Sync, F: Shelf, D: Door, B: Disk>(
         (change (F.state shelf.old) (F.state shelf.new)) }
     ensures quiet { OnOk result (F.state shelf.new ≡ F.state shelf.old) }
 {
-    let (witness, file) = match load_all(alloc, shelf, ask) {
+    let (witness, file) = match load_all(rt, alloc, shelf, ask) {
         Ok(loaded) => loaded,
         Err(refusal) => return Err((refusal, journal)),
     };

@@ -60,7 +60,7 @@ where
         Asks::Serve(ask) => run_serve(rt, alloc, shelf, ports, out, notices, ask),
         Asks::ServeMany(ask) => run_serve_many(rt, alloc, shelf, ports, out, notices, ask),
         Asks::Prove(ask) => run_prove(rt, alloc, shelf, ports, out, &ask),
-        Asks::Audit(ask) => ports.end(run_audit(alloc, shelf, out, &ask)),
+        Asks::Audit(ask) => ports.end(run_audit(rt, alloc, shelf, out, &ask)),
         Asks::Status(ask) => {
             let Ports { journal, door } = ports;
             let circuit = ask.circuit.as_deref();

@@ -220,7 +220,7 @@ where
     ensures kept { OnErr result (OnlyLoads (IsLoadedName (service_of service.now))
         (change (F.state shelf.old) (F.state shelf.new))) }
 {
-    let files = match load_files(alloc, shelf, service) {
+    let files = match load_files(rt, alloc, shelf, service) {
         Ok(files) => files,
         Err(refusal) => return Err(Stopped { refusal, ports }),
     };

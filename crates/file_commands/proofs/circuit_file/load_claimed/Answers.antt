@@ -9,7 +9,7 @@ use Rattle.file_commands.proofs.Causes.{circuit_of_load, circuit_of_text, claim_
 use Rattle.file_commands.proofs.circuit_file.load_claimed.Goals as goal
 
 pub returns-clause-digest : goal.returns-clause-digest
-returns-clause-digest g c = subst (AreBytes 32) (sym c.digest-digest.ensures) (length-sha256 _, sha256_octets _)
+returns-clause-digest g c = subst (AreBytes 32) (sym c.in_ok-claimed.ensures.digest) (length-sha256 _, sha256_octets _)
 
 pub returns-in_err-text-clause-stop : goal.returns-in_err-text-clause-stop
 returns-in_err-text-clause-stop g c =
@@ -19,12 +19,12 @@ returns-in_err-text-clause-stop g c =
     (claim_of_circuit c.args.name.now c.args.public.now c.args.outputs.now shelf why
     (circuit_of_load c.args.name.now shelf why c.in_err-text.ensures.stop))
 
-pub returns-in_err-circuit-clause-stop : goal.returns-in_err-circuit-clause-stop
-returns-in_err-circuit-clause-stop g c =
+pub returns-in_err-claimed-clause-stop : goal.returns-in_err-claimed-clause-stop
+returns-in_err-claimed-clause-stop g c =
     let shelf = change (g.F.Shelf.state c.args.shelf.now) (g.F.Shelf.state c.load_file.new.shelf) in
-    let why = c.in_err-circuit.field-0.0 in
-    fails_at _ c.from_residual-in_err-circuit.result why c.from_residual-in_err-circuit.ensures.1
+    let why = c.in_err-claimed.field-0.0 in
+    fails_at _ c.from_residual-in_err-claimed.result why c.from_residual-in_err-claimed.ensures.1
     (claim_of_circuit c.args.name.now c.args.public.now c.args.outputs.now shelf why
     (circuit_of_text c.args.name.now shelf c.deref.result.now why
     (subst (IsLoaded shelf.old.told c.args.name.now) (sym c.deref.ensures.value) c.in_ok-text.ensures.loaded)
-    c.in_err-circuit.ensures.stop))
+    c.in_err-claimed.ensures.stop))

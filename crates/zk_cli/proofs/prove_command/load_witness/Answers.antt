@@ -16,7 +16,7 @@ use Rattle.zk_cli.proofs.prove_command.load_witness.Given.{Over}
 use Rattle.zk_cli.proofs.prove_command.load_witness.Goals as goal
 
 pub new-requires-clause-digest : goal.new-requires-clause-digest
-new-requires-clause-digest g c = subst (AreBytes 32) (sym c.digest-digest.ensures) (length-sha256 _, sha256_octets _)
+new-requires-clause-digest g c = subst (AreBytes 32) (sym c.in_ok-claimed.ensures.digest) (length-sha256 _, sha256_octets _)
 
 -- the claim, by the digest of the text
 stated : (claim : Statement) (circuit : Circuit) (text digest : List ℕ) (public outputs : List Bool)
@@ -25,21 +25,22 @@ stated claim circuit text digest public outputs is digested = is ∙ ap (λ d. c
 
 pub returns-clause-witness : goal.returns-clause-witness
 returns-clause-witness g c =
-    let circuit = c.in_ok-circuit.circuit in
+    let circuit = c.in_ok-claimed.claimed.circuit in
     let text = c.in_ok-text.text.items in
     let public = c.args.ask.now.public.items in
     let bits = c.args.ask.now.bits.items in
     let outputs = c.args.ask.now.outputs.items in
     let wires = c.in_ok-wires.wires.items in
     let said = stated c.in_ok-claim.claim circuit text _ public outputs
-    (c.in_ok-claim.ensures ∙ (λ i. circuit_statement circuit c.digest-digest.result (c.deref-3.ensures.value i) (c.deref-4.ensures.value i))) c.digest-digest.ensures in record {
+    (c.in_ok-claim.ensures ∙ (λ i. circuit_statement circuit c.in_ok-claimed.claimed.digest (c.deref-3.ensures.value i) (c.deref-4.ensures.value i)))
+    (c.in_ok-claimed.ensures.digest ∙ ap sha256 c.deref-2.ensures.value) in record {
       circuit = circuit;
       wires = wires;
       witnessed = record {
         claim = record {
           text = text;
           loaded = subst (λ (name : List ℕ). IsLoaded (g.F.Shelf.state c.args.shelf.now).told name text) c.deref.ensures c.in_ok-text.ensures.loaded;
-          says = subst (IsText circuit) c.deref-2.ensures.value c.in_ok-circuit.ensures.says;
+          says = subst (IsText circuit) c.deref-2.ensures.value c.in_ok-claimed.ensures.says;
           few = c.in_ok-wires.ensures.few;
           count = c.in_ok-wires.ensures.count;
           statement_is = said;
@@ -48,12 +49,12 @@ returns-clause-witness g c =
         satisfied = (wires, c.in_ok-wires.ensures.wires, c.in_ok-wires.ensures.outputs);
         witness = λ file.
             subst (λ (s : Statement). IsWitness s (map from_bit bits) (map from_bit wires) (prover_of s wires file).given) (sym said)
-            (witness_is circuit (sha256 text) public bits outputs wires c.bits_solve.ensures c.in_ok-circuit.ensures.says.well_formed c.in_ok-wires.ensures.few c.in_ok-wires.ensures.wires);
+            (witness_is circuit (sha256 text) public bits outputs wires c.bits_solve.ensures c.in_ok-claimed.ensures.says.well_formed c.in_ok-wires.ensures.few c.in_ok-wires.ensures.wires);
       };
       proves = λ file.
           subst (λ (s : Statement). prover_from s c.in_ok-inputs.inputs.items file ≡ prover_of s wires file) (sym said)
           (ap (λ (values : List ℕ). prover_from (circuit_statement circuit (sha256 text) public outputs) values file) (c.in_ok-inputs.ensures ∙ ap (map from_bit) c.deref-5.ensures.value)
-          ∙ c.input_bits_prove.ensures circuit (sha256 text) public outputs bits wires file c.in_ok-circuit.ensures.says.well_formed c.in_ok-wires.ensures.few c.in_ok-wires.ensures.wires);
+          ∙ c.input_bits_prove.ensures circuit (sha256 text) public outputs bits wires file c.in_ok-claimed.ensures.says.well_formed c.in_ok-wires.ensures.few c.in_ok-wires.ensures.wires);
     }
 
 pub returns-clause-inputs : goal.returns-clause-inputs
@@ -62,8 +63,8 @@ returns-clause-inputs g c =
     let bits = c.args.ask.now.bits.items in
     let whole = length-append public bits in
     let inputs = c.in_ok-wires.ensures.inputs in
-    let all : length bits ≡ c.in_ok-circuit.circuit.inputs - length public = omega (arith, whole, inputs) in
-    let said = stated c.in_ok-claim.claim c.in_ok-circuit.circuit c.in_ok-text.text.items _ public c.args.ask.now.outputs.items
-    (c.in_ok-claim.ensures ∙ (λ i. circuit_statement c.in_ok-circuit.circuit c.digest-digest.result (c.deref-3.ensures.value i) (c.deref-4.ensures.value i)))
-    c.digest-digest.ensures in
+    let all : length bits ≡ c.in_ok-claimed.claimed.circuit.inputs - length public = omega (arith, whole, inputs) in
+    let said = stated c.in_ok-claim.claim c.in_ok-claimed.claimed.circuit c.in_ok-text.text.items _ public c.args.ask.now.outputs.items
+    (c.in_ok-claim.ensures ∙ (λ i. circuit_statement c.in_ok-claimed.claimed.circuit c.in_ok-claimed.claimed.digest (c.deref-3.ensures.value i) (c.deref-4.ensures.value i)))
+    (c.in_ok-claimed.ensures.digest ∙ ap sha256 c.deref-2.ensures.value) in
     ap length (c.in_ok-inputs.ensures ∙ ap (map from_bit) c.deref-5.ensures.value) ∙ length-map bits from_bit ∙ all ∙ sym (ap (λ (s : Statement). s.program.inputs) said)
