@@ -18,7 +18,7 @@ use Rattle.zk_model.specs.declared.Params.{Params}
 use Rattle.zk_model.specs.declared.Side.{Side}
 use Rattle.zk_model.specs.declared.Side.TheVariants.{Prover, Verifier}
 use Rattle.session_core.specs.Jobs.{ProverJob, Suits}
-use Rattle.session_prover.specs.Stages.{AreAskedRounds, greeting, fixed_log, setup_for, Claim, Fixes, IsLogAt, all_asks, granted_log, replied_log, sums_for, openings_for, ClaimedFor, AreSomeReplies, IsLogTaken, asked_log, rounds_log, challenged_log, IsSound, IsBehindGrant}
+use Rattle.session_prover.specs.Stages.{AreAskedRounds, greeting, fixed_log, setup_for, Claim, Fixes, IsProverLogAt, all_asks, granted_log, replied_log, sums_for, openings_for, ClaimedFor, AreSomeReplies, IsLogTaken, asked_log, rounds_log, challenged_log, IsSoundJob, IsBehindGrant}
 use Rattle.session_prover.proofs.Heard.{fixed_sent, fixed_heard, greeted_sent, replied_sent, setup_is, fixed_by, committed, has_answered}
 use Rattle.session_prover.proofs.AskedRounds.{all_pairs, asked_none, asked_round}
 use Rattle.zk_laws.proofs.KeysFit.{keys_fit}
@@ -77,7 +77,7 @@ has_round job given round d log more is = record {
 }
 
 -- the replies of a round that is whole are an honest verifier's, where it sent its part
-one_replied : (job : ProverJob) (given : Grant) (round : Round) (file : VerifierFile) (t : Transcript) (log : List (Side × ℕ)) (turns : ℕ) → IsSound job
+one_replied : (job : ProverJob) (given : Grant) (round : Round) (file : VerifierFile) (t : Transcript) (log : List (Side × ℕ)) (turns : ℕ) → IsSoundJob job
     → IsGrant job.file.params job.statement.program given → IsRound job.file.params given round → job.file.params.kind ≡ Extended
     → IsTranscript job.file.params job.statement.program t → RepliesAre file t.commitment.setup → HasRound job given round log
     → (z : List ℕ) → answered (take turns (session_turns t)) ≡ sent_by Verifier log ++ z
@@ -115,7 +115,7 @@ one_replied job given round file t log (suc (suc m)) sound granted is extended t
     ∙ (λ i. round_replies file (sym same.grants i) (sym same.asks i))
 
 -- all together
-pub honest_replies : (job : ProverJob) (given : Grant) (rounds : List Round) (d : List ℕ) (log more : List (Side × ℕ)) (verifier : VerifierTask) → IsSound job
+pub honest_replies : (job : ProverJob) (given : Grant) (rounds : List Round) (d : List ℕ) (log more : List (Side × ℕ)) (verifier : VerifierTask) → IsSoundJob job
     → IsGrant job.file.params job.statement.program given → AreAskedRounds job given rounds → log ≡ fixed_log job given rounds d ++ more
     → job.file.params ≡ verifier.file.params → job.statement ≡ verifier.statement → IsFromHonestVerifier verifier log
     → RepliesAre verifier.file (setup_for job given rounds)
@@ -183,7 +183,7 @@ related_asks job given log more part rest extended granted is sent begun = inl (
 ))
 
 -- where the corrections were
-pub related_fixed : (job : ProverJob) (given : Grant) (rounds : List Round) (pairs : List Pair) (d : List ℕ) (wires : WirePairs) (log more : List (Side × ℕ)) → IsSound job
+pub related_fixed : (job : ProverJob) (given : Grant) (rounds : List Round) (pairs : List Pair) (d : List ℕ) (wires : WirePairs) (log more : List (Side × ℕ)) → IsSoundJob job
     → Fixes job given rounds pairs d wires → log ≡ fixed_log job given rounds d ++ more → IsRelated job log
 related_fixed job given rounds pairs d wires log more sound fixes is = inr (record {
   given = given;
@@ -210,8 +210,8 @@ related_replied job given came log more extended granted is =
     (sym (append-nil (all_asks job given)))
 
 -- where a prover waits, and bytes have come since
-pub related_at : (job : ProverJob) (claim : Claim) (stage : ProverStage) (before : List (Side × ℕ)) (rest : List ℕ) → IsSound job
-    → IsLogAt job claim stage before → IsRelated job (before ++ bytes_from Verifier rest)
+pub related_at : (job : ProverJob) (claim : Claim) (stage : ProverStage) (before : List (Side × ℕ)) (rest : List ℕ) → IsSoundJob job
+    → IsProverLogAt job claim stage before → IsRelated job (before ++ bytes_from Verifier rest)
 related_at job claim awaits_grant before rest sound at =
     related_greeting job (before ++ bytes_from Verifier rest) (came_same Verifier before rest ∙ ap (sent_by Prover) at.1 ∙ greeted_sent job)
 related_at job claim (awaits_replies given came) before rest sound (claimed, some, at) =
@@ -266,7 +266,7 @@ answer_of_kind job Direct given can =
 answer_of_kind job Extended given can =
     (map asks (round_asks (of_kind job Extended).file given), awaits_replies given [], (refl, refl))
 
-commits_to : (job : ProverJob) (given : Grant) (rounds : List Round) (pairs : List Pair) → IsSound job → IsGrant job.file.params job.statement.program given
+commits_to : (job : ProverJob) (given : Grant) (rounds : List Round) (pairs : List Pair) → IsSoundJob job → IsGrant job.file.params job.statement.program given
     → AreAskedRounds job given rounds → IsProverView job.file (setup_for job given rounds) pairs → CanCommit job given pairs
 commits_to job given rounds pairs sound granted asked seen =
     let found = fixed_by job given rounds pairs sound granted asked seen in
@@ -278,9 +278,9 @@ commits_to job given rounds pairs sound granted asked seen =
 commits_at : (job : ProverJob) (claim : Claim) (given : Grant) (rounds : List Round) (pairs : List Pair) (answer : List Frame) (now : ProverStage) (log : List (Side × ℕ))
     → ClaimedFor claim given → IsGrant job.file.params job.statement.program given → AreAskedRounds job given rounds
     → IsProverView job.file (setup_for job given rounds) pairs → log ≡ rounds_log job given rounds → Commits job given pairs answer now
-    → IsLogAt job claim now (log ++ bytes_from Prover (flat_map frame_spelling answer))
+    → IsProverLogAt job claim now (log ++ bytes_from Prover (flat_map frame_spelling answer))
 commits_at job claim given rounds pairs answer now log claimed granted asked seen at (d, wires, fixed, said, next) =
-    subst (λ p. IsLogAt job claim p (log ++ bytes_from Prover (flat_map frame_spelling answer))) (sym next) (
+    subst (λ p. IsProverLogAt job claim p (log ++ bytes_from Prover (flat_map frame_spelling answer))) (sym next) (
       rounds,
       d,
       claimed,
@@ -297,9 +297,9 @@ spelled_asks (first ∷ trees) = ap (λ l. ask_frame first ++ l) (spelled_asks t
 asks_at : (job : ProverJob) (claim : Claim) (given : Grant) (answer : List Frame) (now : ProverStage) (log : List (Side × ℕ))
     → ClaimedFor claim given → IsGrant job.file.params job.statement.program given → job.file.params.kind ≡ Extended
     → log ≡ granted_log job given → answer ≡ map asks (round_asks job.file given) → now ≡ awaits_replies given []
-    → IsLogAt job claim now (log ++ bytes_from Prover (flat_map frame_spelling answer))
+    → IsProverLogAt job claim now (log ++ bytes_from Prover (flat_map frame_spelling answer))
 asks_at job claim given answer now log claimed granted extended at said next =
-    subst (λ p. IsLogAt job claim p (log ++ bytes_from Prover (flat_map frame_spelling answer))) (sym next) (
+    subst (λ p. IsProverLogAt job claim p (log ++ bytes_from Prover (flat_map frame_spelling answer))) (sym next) (
       claimed,
       record {
         granted = granted;
@@ -328,11 +328,11 @@ whole_log job given came =
 
 -- after the replies of one unit more
 replies_at : (job : ProverJob) (claim : Claim) (given : Grant) (came : List (List TreeReply)) (trees : List TreeReply) (answer : List Frame) (now : ProverStage) (log : List (Side × ℕ))
-    → IsSound job → ClaimedFor claim given → AreSomeReplies job given came → AreReplies job.file.params.height job.file.params.trees trees
+    → IsSoundJob job → ClaimedFor claim given → AreSomeReplies job given came → AreReplies job.file.params.height job.file.params.trees trees
     → log ≡ replied_log job given (came ++ trees ∷ []) → GoesOn job given (came ++ trees ∷ []) answer now
-    → IsLogAt job claim now (log ++ bytes_from Prover (flat_map frame_spelling answer))
+    → IsProverLogAt job claim now (log ++ bytes_from Prover (flat_map frame_spelling answer))
 replies_at job claim given came trees answer now log sound claimed some are at (inl (less, said, next)) =
-    subst (λ p. IsLogAt job claim p (log ++ bytes_from Prover (flat_map frame_spelling answer))) (sym next) (
+    subst (λ p. IsProverLogAt job claim p (log ++ bytes_from Prover (flat_map frame_spelling answer))) (sym next) (
       claimed,
       record {
         granted = some.granted;
@@ -349,16 +349,16 @@ replies_at job claim given came trees answer now log sound claimed some are at (
     (at ∙ whole_log job given (came ++ trees ∷ [])) commits
 
 -- a prover that is where it waits, after its answer
-pub answer_leads : (job : ProverJob) (claim : Claim) (stage : ProverStage) (frame : Frame) (answer : List Frame) (now : ProverStage) (log : List (Side × ℕ)) → IsSound job
+pub answer_leads : (job : ProverJob) (claim : Claim) (stage : ProverStage) (frame : Frame) (answer : List Frame) (now : ProverStage) (log : List (Side × ℕ)) → IsSoundJob job
     → IsLogTaken job claim stage frame log → ProverAnswers job stage frame answer now
-    → IsLogAt job claim now (log ++ bytes_from Prover (flat_map frame_spelling answer))
+    → IsProverLogAt job claim now (log ++ bytes_from Prover (flat_map frame_spelling answer))
 answer_leads job claim awaits_grant frame answer now log sound (given, is, claimed, granted, at) (other, is_too, fits, answers) =
     of_kind_of (grant_answer job given answer now (subst (λ g. AnswersGrant job g answer now) (sym same) answers))
   where
     same : given ≡ other
     same = cc
 
-    of_kind_of : IsGrantAnswer job given answer now → IsLogAt job claim now (log ++ bytes_from Prover (flat_map frame_spelling answer))
+    of_kind_of : IsGrantAnswer job given answer now → IsProverLogAt job claim now (log ++ bytes_from Prover (flat_map frame_spelling answer))
     of_kind_of (inl (direct, commits)) =
         commits_at job claim given [] (span_pairs job.file (span_of given)) answer now log claimed granted (asked_none job given direct)
         (pairs_seen job.file (setup_for job given [])) (at ∙ sym (append-nil (granted_log job given))) commits
@@ -370,7 +370,7 @@ answer_leads job claim (awaits_challenge given pairs wires) frame answer now log
     let same : element ≡ other = cc in
     let u : List ℕ = sums_frame (sums_for job given pairs wires element) in
     let o : List ℕ = openings_frame (openings_for job wires) in
-    subst (λ p. IsLogAt job claim p (log ++ bytes_from Prover (flat_map frame_spelling answer))) (sym next) (record {
+    subst (λ p. IsProverLogAt job claim p (log ++ bytes_from Prover (flat_map frame_spelling answer))) (sym next) (record {
       given = given;
       claimed = claimed;
       rounds = rounds;
@@ -419,7 +419,7 @@ next_of job claim (awaits_challenge given pairs wires) frame answer now log take
 next_of job claim other frame answer now log taken answers = absurd taken
 
 -- the replies for all units have an answer
-rounds_end : (job : ProverJob) (given : Grant) (came : List (List TreeReply)) → IsSound job → IsGrant job.file.params job.statement.program given
+rounds_end : (job : ProverJob) (given : Grant) (came : List (List TreeReply)) → IsSoundJob job → IsGrant job.file.params job.statement.program given
     → job.file.params.kind ≡ Extended → length came ≡ given.count → All (AreReplies job.file.params.height job.file.params.trees) came
     → (answer : List Frame) × (now : ProverStage) × GoesOn job given came answer now
 rounds_end job given came sound granted extended all each =
@@ -433,7 +433,7 @@ rounds_end job given came sound granted extended all each =
         (whole_view job.file (setup_for job given []).hello given came found.0 all found.1)
 
 -- a frame that has come has an answer
-pub answer_exists : (job : ProverJob) (claim : Claim) (stage : ProverStage) (frame : Frame) (log : List (Side × ℕ)) → IsSound job
+pub answer_exists : (job : ProverJob) (claim : Claim) (stage : ProverStage) (frame : Frame) (log : List (Side × ℕ)) → IsSoundJob job
     → IsLogTaken job claim stage frame log → (answer : List Frame) × (now : ProverStage) × ProverAnswers job stage frame answer now
 answer_exists job claim awaits_grant frame log sound (given, is, claimed, granted, at) =
     let found = answer_of_kind job job.file.params.kind given (λ direct. commits_to job given [] (span_pairs job.file (span_of given)) sound granted
@@ -453,7 +453,7 @@ answer_exists job claim other frame log sound taken = absurd taken
 
 -- the answer is what an honest prover sends next
 pub answer_is_honest : (job : ProverJob) (claim : Claim) (stage : ProverStage) (frame : Frame) (answer : List Frame) (now : ProverStage) (log : List (Side × ℕ)) (inputs values : List ℕ)
-    → IsSound job → IsLogTaken job claim stage frame log → ProverAnswers job stage frame answer now → IsWitness job.statement inputs values job.given
+    → IsSoundJob job → IsLogTaken job claim stage frame log → ProverAnswers job stage frame answer now → IsWitness job.statement inputs values job.given
     → AreHonestBytes (task_of job inputs) (sent_by Verifier log) (sent_by Prover log ++ flat_map frame_spelling answer)
 answer_is_honest job claim stage frame answer now log inputs values sound taken answers witness =
     let bytes : List ℕ = flat_map frame_spelling answer in
@@ -486,7 +486,7 @@ all_asks_short file given is within =
 
 -- ---- corrections
 
-commits_short : (job : ProverJob) (given : Grant) (rounds : List Round) (pairs : List Pair) (answer : List Frame) (now : ProverStage) → IsSound job
+commits_short : (job : ProverJob) (given : Grant) (rounds : List Round) (pairs : List Pair) (answer : List Frame) (now : ProverStage) → IsSoundJob job
     → IsGrant job.file.params job.statement.program given → AreAskedRounds job given rounds → IsProverView job.file (setup_for job given rounds) pairs
     → Commits job given pairs answer now → All IsShort answer
 commits_short job given rounds pairs answer now sound granted asked seen (d, wires, fixed, said, next) =
@@ -495,7 +495,7 @@ commits_short job given rounds pairs answer now sound granted asked seen (d, wir
     (All-cons IsShort (corrections d) [] (omega (arith, length-elements d, count, sound.givens)) (All-nil IsShort))
 
 pub answer_short : (job : ProverJob) (claim : Claim) (stage : ProverStage) (frame : Frame) (answer : List Frame) (now : ProverStage) (log : List (Side × ℕ))
-    → IsSound job → IsLogTaken job claim stage frame log → ProverAnswers job stage frame answer now → All IsShort answer
+    → IsSoundJob job → IsLogTaken job claim stage frame log → ProverAnswers job stage frame answer now → All IsShort answer
 answer_short job claim awaits_grant frame answer now log sound taken (given, is, granted, answers) =
     elim (grant_answer job given answer now answers) [
       | inl (direct, commits) ↦

@@ -9,8 +9,8 @@ use Rattle.frame_link.specs.Lines.{IsUnfinished, LinkSnapshot, IsCutShort}
 use Rattle.frame_link.proofs.LineLemmas.{longest, within_longest}
 use Rattle.session_core.specs.Jobs.{ProverJob, Suits}
 use Rattle.session_prover.specs.declared.note.ProverOutcome.{ProverOutcome}
-use Rattle.session_prover.specs.Outcomes.{line_outcome, session_outcome, verdict_outcome}
-use Rattle.session_prover.specs.Stages.{Claim, ClaimedFor, greeted_log, granted_log, IsLogAt, IsLogTaken, replied_log, fixed_log, all_asks, sums_for, openings_for, IsOpenedLog, opened_log, IsSound, IsBehindGrant, IsRejection, AnswersEach}
+use Rattle.session_prover.specs.Outcomes.{prover_line_outcome, prover_fault_outcome, verdict_outcome}
+use Rattle.session_prover.specs.Stages.{Claim, ClaimedFor, greeted_log, granted_log, IsProverLogAt, IsLogTaken, replied_log, fixed_log, all_asks, sums_for, openings_for, IsOpenedLog, opened_log, IsSoundJob, IsBehindGrant, IsRejection, AnswersEach}
 use Rattle.session_prover.specs.Notes.{AnswersGrantPlace, IsClaimRefused, IsRelated, task_of, IsGrantRead, IsAskedRight, SendsOnceClaimed, IsAnswerDue, IsOutcome, CountsOutcome, SendsHonestly, SendsEach, AnswersVerdict, IsLogged, ReadsVerdict, HasEnded}
 use Rattle.session_prover.proofs.Heard.{greeted_heard, granted_sent, turns_at, next_frame, IsUnheard, unread, Hears, read_so, same_stage, greeted_sent, not_heard, has_answered, from_ended, opened_sent, opened_heard, made, made_is, made_honest, finishes, all_sent}
 use Rattle.session_prover.proofs.Answering.{suits_is, related_greeting, related_asks, related_replied, related_fixed, related_at, read_is, IsUnder, IsGrantAnswer, grant_answer, spelled_asks, answer_leads, answer_exists, answer_is_honest, read_under, next_of}
@@ -58,8 +58,8 @@ none_of_none zero = refl
 none_of_none (suc n) = refl
 
 -- where corrections answer, none of them are sent, or all
-related_commits : (job : ProverJob) (claim : Claim) (given : Grant) (pairs : List Pair) (answer : List Frame) (now : ProverStage) (log : List (Side × ℕ)) (n : ℕ) → IsSound job
-    → Commits job given pairs answer now → IsLogAt job claim now (log ++ bytes_from Prover (flat_map frame_spelling answer)) → IsRelated job log
+related_commits : (job : ProverJob) (claim : Claim) (given : Grant) (pairs : List Pair) (answer : List Frame) (now : ProverStage) (log : List (Side × ℕ)) (n : ℕ) → IsSoundJob job
+    → Commits job given pairs answer now → IsProverLogAt job claim now (log ++ bytes_from Prover (flat_map frame_spelling answer)) → IsRelated job log
     → IsRelated job (log ++ bytes_from Prover (flat_map frame_spelling (take n answer)))
 related_commits job claim given pairs answer now log n sound (d, wires, fixed, said, next) at before =
     let whole : IsRelated job ((log ++ bytes_from Prover (flat_map frame_spelling answer)) ++ bytes_from Verifier []) =
@@ -74,7 +74,7 @@ related_commits job claim given pairs answer now log n sound (d, wires, fixed, s
     ])
 
 -- a log after which a frame is to be answered
-related_taken : (job : ProverJob) (claim : Claim) (stage : ProverStage) (frame : Frame) (log : List (Side × ℕ)) → IsSound job
+related_taken : (job : ProverJob) (claim : Claim) (stage : ProverStage) (frame : Frame) (log : List (Side × ℕ)) → IsSoundJob job
     → IsLogTaken job claim stage frame log → IsRelated job log
 related_taken job claim awaits_grant frame log sound (given, is, claimed, granted, at) =
     related_greeting job log (ap (sent_by Prover) at ∙ granted_sent job given)
@@ -85,7 +85,7 @@ related_taken job claim (awaits_challenge given pairs wires) frame log sound (el
 related_taken job claim other frame log sound taken = absurd taken
 
 -- and the first frames of its answer
-pub related_answer : (job : ProverJob) (claim : Claim) (stage : ProverStage) (frame : Frame) (answer : List Frame) (now : ProverStage) (log : List (Side × ℕ)) (n : ℕ) → IsSound job
+pub related_answer : (job : ProverJob) (claim : Claim) (stage : ProverStage) (frame : Frame) (answer : List Frame) (now : ProverStage) (log : List (Side × ℕ)) (n : ℕ) → IsSoundJob job
     → IsLogTaken job claim stage frame log → ProverAnswers job stage frame answer now
     → IsRelated job (log ++ bytes_from Prover (flat_map frame_spelling (take n answer)))
 related_answer job claim awaits_grant frame answer now log n sound (given, is, claimed, granted, at) (other, is_too, fits, answers) =
@@ -129,7 +129,7 @@ pub record IsDue (job : ProverJob) (claim : Claim) (log : List (Side × ℕ)) (b
   pub answers : (outcome : ProverOutcome) → AnswersGrantPlace job claim outcome log
 
 -- counts of a line's fault
-counts_line : (f : LineFault) (first now : LinkSnapshot) → CountsCalls f first now → CountsOutcome (line_outcome f) first.faults now.faults
+counts_line : (f : LineFault) (first now : LinkSnapshot) → CountsCalls f first now → CountsOutcome (prover_line_outcome f) first.faults now.faults
 counts_line fault.Link first now calls = record { later = calls.later; unfailed = λ no. absurd (no refl) }
 counts_line other first now calls = record { later = calls.later; unfailed = λ no. calls.unfailed tt }
 
@@ -167,7 +167,7 @@ module _ (job : ProverJob) (claim : Claim) (first : LinkSnapshot) (bytes : List 
   from_log : (inputs wires : List ℕ) → IsWitness job.statement inputs wires job.given → IsFromHonestProver (task_of job inputs) now.log
   from_log inputs wires witness = subst (λ l. IsFromHonestProver (task_of job inputs) l) (append-nil now.log) (from_due inputs wires witness [] bytes refl)
 
-  at_fault : (g : LineFault) → IsSendFault g → SendsHonestly job now.log (line_outcome g) × notes.IsFault (line_outcome g)
+  at_fault : (g : LineFault) → IsSendFault g → SendsHonestly job now.log (prover_line_outcome g) × notes.IsFault (prover_line_outcome g)
   at_fault fault.Link is = (from_log, tt)
   at_fault fault.NoMemory is = (from_log, tt)
   at_fault other is = absurd is
@@ -177,25 +177,25 @@ module _ (job : ProverJob) (claim : Claim) (first : LinkSnapshot) (bytes : List 
   fault_of (inr lost) = lost.fault_is
 
   lost_so : (g : LineFault) → IsAnswerDue job claim (least_for g) now.log → IsLostBy g Prover now.log bytes first now
-      → IsOutcome job claim now.log first now (line_outcome g)
+      → IsOutcome job claim now.log first now (prover_line_outcome g)
   lost_so fault.Link owed lost = (lost.calls.failed refl, inr (owed, lost.sends, lost.refused_sends))
   lost_so fault.NoMemory owed lost = inr (inl owed)
   lost_so other owed lost = absurd lost.fault_is
 
-  caused : IsAnswerDue job claim (least_for f) now.log → KeepsDue bytes f first now → IsOutcome job claim now.log first now (line_outcome f)
-  caused owed (inl lacks) = subst (λ g. IsOutcome job claim now.log first now (line_outcome g)) (sym lacks.0)
+  caused : IsAnswerDue job claim (least_for f) now.log → KeepsDue bytes f first now → IsOutcome job claim now.log first now (prover_line_outcome f)
+  caused owed (inl lacks) = subst (λ g. IsOutcome job claim now.log first now (prover_line_outcome g)) (sym lacks.0)
       (inr (inl (subst (λ g. IsAnswerDue job claim (least_for g) now.log) lacks.0 owed)))
   caused owed (inr lost) = lost_so f owed lost
 
-  sent_each : KeepsDue bytes f first now → SendsEach (line_outcome f) now.log first now
+  sent_each : KeepsDue bytes f first now → SendsEach (prover_line_outcome f) now.log first now
   sent_each (inl lacks) = inl (lacks.1.sends, lacks.1.refused_sends)
   sent_each (inr lost) = inr ((at_fault f lost.fault_is).1, lost.sends, lost.refused_sends)
 
-  counts_calls : KeepsDue bytes f first now → CountsOutcome (line_outcome f) first.faults now.faults
+  counts_calls : KeepsDue bytes f first now → CountsOutcome (prover_line_outcome f) first.faults now.faults
   counts_calls (inl lacks) = record { later = omega (arith, lacks.1.faults); unfailed = λ _. lacks.1.faults }
   counts_calls (inr lost) = counts_line f first now lost.calls
 
-  told : KeepsDue bytes f first now → IsLogged job claim (line_outcome f) now.log first now
+  told : KeepsDue bytes f first now → IsLogged job claim (prover_line_outcome f) now.log first now
   told (inl lacks) = record {
     part = [];
     told = lacks.1.told ∙ ap (λ l. appended l first.told) (sym (append-nil now.log));
@@ -216,15 +216,15 @@ module _ (job : ProverJob) (claim : Claim) (first : LinkSnapshot) (bytes : List 
       }
 
   pub stops_sending : IsAnswerDue job claim (least_for f) now.log → KeepsDue bytes f first now → IsRelated job now.log → IsUnheard job now.log
-      → HasEnded job claim first (line_outcome f) now
+      → HasEnded job claim first (prover_line_outcome f) now
   stops_sending owed kept related unheard = record {
     outcome_is = caused owed kept;
     asked = subst (λ l. IsAskedRight job claim l) (append-nil now.log) (due.asked []);
     honest = (at_fault f (fault_of kept)).0;
     claimed = subst (λ l. SendsOnceClaimed job claim l) (append-nil now.log) (due.claimed [] bytes refl);
     related = related;
-    answers = due.answers (line_outcome f);
-    verdict = unread job (line_outcome f) now.log unheard;
+    answers = due.answers (prover_line_outcome f);
+    verdict = unread job (prover_line_outcome f) now.log unheard;
     sends = sent_each kept;
     logged = told kept;
     count = counts_calls kept;
@@ -255,7 +255,7 @@ under job claim other frame log taken = absurd taken
 
 -- an answer is due
 answer_due : (job : ProverJob) (claim : Claim) (stage : ProverStage) (frame : Frame) (answer : List Frame) (now : ProverStage) (log : List (Side × ℕ))
-    → IsSound job → IsLogTaken job claim stage frame log → ProverAnswers job stage frame answer now
+    → IsSoundJob job → IsLogTaken job claim stage frame log → ProverAnswers job stage frame answer now
     → IsDue job claim log (flat_map frame_spelling answer)
 answer_due job claim stage frame answer now log sound taken answers = record {
   honest = λ inputs wires witness. answer_is_honest job claim stage frame answer now log inputs wires sound taken answers witness;
@@ -272,7 +272,7 @@ answer_due job claim stage frame answer now log sound taken answers = record {
         (ap (λ l. l ++ more) u.logged ∙ append_assoc (granted_log job u.given) u.more more)
 
 -- where a frame is to be answered, what comes after it was not heard
-pub taken_unheard : (job : ProverJob) (claim : Claim) (stage : ProverStage) (frame : Frame) (log : List (Side × ℕ)) → IsSound job
+pub taken_unheard : (job : ProverJob) (claim : Claim) (stage : ProverStage) (frame : Frame) (log : List (Side × ℕ)) → IsSoundJob job
     → IsLogTaken job claim stage frame log → IsUnheard job log
 taken_unheard job claim stage frame log sound taken =
     let found = answer_exists job claim stage frame log sound taken in
@@ -290,8 +290,8 @@ taken_unheard job claim stage frame log sound taken =
 
 -- an answer is not sent
 pub stops_answering : (job : ProverJob) (claim : Claim) (first : LinkSnapshot) (stage : ProverStage) (frame : Frame) (answer : List Frame) (next : ProverStage) (f : LineFault)
-    (now : LinkSnapshot) → IsSound job → IsLogTaken job claim stage frame now.log → ProverAnswers job stage frame answer next → least_for f ≤ length answer
-    → KeepsDue (flat_map frame_spelling answer) f first now → HasEnded job claim first (line_outcome f) now
+    (now : LinkSnapshot) → IsSoundJob job → IsLogTaken job claim stage frame now.log → ProverAnswers job stage frame answer next → least_for f ≤ length answer
+    → KeepsDue (flat_map frame_spelling answer) f first now → HasEnded job claim first (prover_line_outcome f) now
 stops_answering job claim first stage frame answer next f now sound taken answers some kept =
     stops_sending job claim first (flat_map frame_spelling answer) f now
     (answer_due job claim stage frame answer next now.log sound taken answers)
@@ -301,15 +301,15 @@ stops_answering job claim first stage frame answer next f now sound taken answer
 
 -- no answer is found
 pub stops_unanswered : (job : ProverJob) (claim : Claim) (first : LinkSnapshot) (stage : ProverStage) (frame : Frame) (now : LinkSnapshot)
-    → IsSound job → IsLogTaken job claim stage frame now.log → AnswersEach first now → HasEnded job claim first NoMemory now
+    → IsSoundJob job → IsLogTaken job claim stage frame now.log → AnswersEach first now → HasEnded job claim first NoMemory now
 stops_unanswered job claim first stage frame now sound taken well =
     let found = answer_exists job claim stage frame now.log sound taken in
     stops_answering job claim first stage frame found.0 found.1 fault.NoMemory now sound taken found.2 (omega arith) (inl (refl, well))
 
 -- the prover refuses to answer: only for want of memory
 pub refuses_nothing : (job : ProverJob) (claim : Claim) (first : LinkSnapshot) (stage : ProverStage) (frame : Frame) (f : ProverFault) (line : LinkSnapshot)
-    → IsSound job → IsLogTaken job claim stage frame line.log → AnswersEach first line → ProverRefuses job stage frame f
-    → HasEnded job claim first (session_outcome f) line
+    → IsSoundJob job → IsLogTaken job claim stage frame line.log → AnswersEach first line → ProverRefuses job stage frame f
+    → HasEnded job claim first (prover_fault_outcome f) line
 refuses_nothing job claim first stage frame session.BadGrant line sound taken well (given, there, is, unsuited) =
     absurd (elsewhere stage frame taken is unsuited)
   where
@@ -335,7 +335,7 @@ refuses_nothing job claim first stage frame session.NoMemory line sound taken we
 -- ---- the claim
 
 -- the grant that a log stands on where the prover waits after it
-under_at : (job : ProverJob) (claim : Claim) (stage : ProverStage) (before more : List (Side × ℕ)) → IsBehindGrant stage → IsLogAt job claim stage before
+under_at : (job : ProverJob) (claim : Claim) (stage : ProverStage) (before more : List (Side × ℕ)) → IsBehindGrant stage → IsProverLogAt job claim stage before
     → IsUnder job claim (before ++ more)
 under_at job claim (awaits_replies given came) before more behind (claimed, some, at) =
     let a = bytes_from Prover (all_asks job given) in
@@ -357,14 +357,14 @@ under_at job claim awaits_verdict before more behind opened =
     (ap (λ l. l ++ more) opened.logged ∙ row_six (granted_log job opened.given) r c b s o more)
 under_at job claim other before more behind at = absurd behind
 
-read_at : (job : ProverJob) (claim : Claim) (stage : ProverStage) (before more : List (Side × ℕ)) → IsLogAt job claim stage before
+read_at : (job : ProverJob) (claim : Claim) (stage : ProverStage) (before more : List (Side × ℕ)) → IsProverLogAt job claim stage before
     → (claim.answer ≡ None) × (before ≡ greeted_log job) ⊎ IsUnder job claim (before ++ more)
 read_at job claim awaits_grant before more at = inl at
 read_at job claim has_ended before more at = absurd at
 read_at job claim stage before more at = inr (under_at job claim stage before more tt at)
 
 -- where the prover waits, the claimant was asked right
-pub asked_at : (job : ProverJob) (claim : Claim) (stage : ProverStage) (before more : List (Side × ℕ)) → IsLogAt job claim stage before
+pub asked_at : (job : ProverJob) (claim : Claim) (stage : ProverStage) (before more : List (Side × ℕ)) → IsProverLogAt job claim stage before
     → IsAskedRight job claim (before ++ more)
 asked_at job claim stage before more at = elim (read_at job claim stage before more at) [
   | inl none ↦ inl none.0
@@ -372,7 +372,7 @@ asked_at job claim stage before more at = elim (read_at job claim stage before m
 ]
 
 -- and nothing is sent past the greeting unless it claimed
-pub once_claimed : (job : ProverJob) (claim : Claim) (stage : ProverStage) (before : List (Side × ℕ)) (rest : List ℕ) → IsLogAt job claim stage before
+pub once_claimed : (job : ProverJob) (claim : Claim) (stage : ProverStage) (before : List (Side × ℕ)) (rest : List ℕ) → IsProverLogAt job claim stage before
     → SendsOnceClaimed job claim (before ++ bytes_from Verifier rest)
 once_claimed job claim stage before rest at = elim (read_at job claim stage before (bytes_from Verifier rest) at) [
   | inl none ↦ inl (
@@ -385,14 +385,14 @@ once_claimed job claim stage before rest at = elim (read_at job claim stage befo
 
 -- what is in the grant's place is answered, where the prover waits after it
 pub answers_behind_claim : (job : ProverJob) (claim : Claim) (stage : ProverStage) (before more : List (Side × ℕ)) (outcome : ProverOutcome)
-    → IsSound job → IsBehindGrant stage → IsLogAt job claim stage before → AnswersGrantPlace job claim outcome (before ++ more)
+    → IsSoundJob job → IsBehindGrant stage → IsProverLogAt job claim stage before → AnswersGrantPlace job claim outcome (before ++ more)
 answers_behind_claim job claim stage before more outcome sound behind at =
     let u = under_at job claim stage before more behind at in
     answers_claimed job claim u.given outcome (before ++ more) sound u.claimed u.granted (u.more, u.logged)
 
 -- what is in the grant's place is answered: no whole frame is there yet, or its units were claimed
 pub answers_at : (job : ProverJob) (claim : Claim) (stage : ProverStage) (awaited : Expect) (before : List (Side × ℕ)) (bytes : List ℕ) (outcome : ProverOutcome)
-    → IsSound job → IsLogAt job claim stage before → prover_expects job stage ≡ Some awaited → IsUnfinished awaited bytes
+    → IsSoundJob job → IsProverLogAt job claim stage before → prover_expects job stage ≡ Some awaited → IsUnfinished awaited bytes
     → AnswersGrantPlace job claim outcome (before ++ bytes_from Verifier bytes)
 answers_at job claim awaits_grant awaited before bytes outcome sound at expected unfinished =
     answers_unread job claim outcome (before ++ bytes_from Verifier bytes) at.0
@@ -450,7 +450,7 @@ ends_well job claim first outcome line well =
 -- where a prover waited
 pub record Comes (job : ProverJob) (claim : Claim) (first : LinkSnapshot) (stage : ProverStage) (frame : Frame) (now : LinkSnapshot) : Type 0 where
   pub before : List (Side × ℕ)
-  pub waited : IsLogAt job claim stage before
+  pub waited : IsProverLogAt job claim stage before
   pub logged : now.log ≡ before ++ bytes_from Verifier (frame_spelling frame)
   pub well : AnswersEach first now
 
@@ -460,30 +460,30 @@ well_of log first now well = subst (λ l. GoesWell Prover l first now) (sym well
 
 -- a frame has come
 pub comes : (job : ProverJob) (claim : Claim) (stage : ProverStage) (frame : Frame) (log : List (Side × ℕ)) (first now : LinkSnapshot)
-    → IsLogAt job claim stage log → GoesWell Prover (log ++ bytes_from Verifier (frame_spelling frame)) first now → Comes job claim first stage frame now
+    → IsProverLogAt job claim stage log → GoesWell Prover (log ++ bytes_from Verifier (frame_spelling frame)) first now → Comes job claim first stage frame now
 comes job claim stage frame log first now at well =
     record { before = log; waited = at; logged = well.logged; well = well_of (log ++ bytes_from Verifier (frame_spelling frame)) first now well }
 
 -- what was sent is for an honest prover, whatever the fault
 sent_line : (f : LineFault) (job : ProverJob) (log : List (Side × ℕ))
     → ((inputs wires : List ℕ) → IsWitness job.statement inputs wires job.given → HasEndedHonestly (task_of job inputs) log)
-    → SendsHonestly job log (line_outcome f)
+    → SendsHonestly job log (prover_line_outcome f)
 sent_line fault.Link job log ended inputs wires witness = from_ended job inputs log (ended inputs wires witness)
 sent_line fault.NoMemory job log ended inputs wires witness = from_ended job inputs log (ended inputs wires witness)
 sent_line other job log ended inputs wires witness = ended inputs wires witness
 
 -- none has come
 pub stops_taking : {S F : Type 0} (moves : Moves S F) (job : ProverJob) (claim : Claim) (stage : ProverStage) (log : List (Side × ℕ)) (mid other : S) (f : LineFault)
-    (first now : LinkSnapshot) → IsSound job → IsLogAt job claim stage log → moves.expects mid ≡ prover_expects job stage
-    → Misses moves Prover log mid other f first now → HasEnded job claim first (line_outcome f) now
+    (first now : LinkSnapshot) → IsSoundJob job → IsProverLogAt job claim stage log → moves.expects mid ≡ prover_expects job stage
+    → Misses moves Prover log mid other f first now → HasEnded job claim first (prover_line_outcome f) now
 stops_taking moves job claim stage log mid other f first now sound at same misses =
-    ends_sent job claim first (line_outcome f) now sent (counts_line f first now short.calls) (by_fault f short.cause short.calls short.part.cut)
+    ends_sent job claim first (prover_line_outcome f) now sent (counts_line f first now short.calls) (by_fault f short.cause short.calls short.part.cut)
     (subst (λ l. IsAskedRight job claim l) (sym logged) (asked_at job claim stage log (bytes_from Verifier rest) at))
     (subst (λ l. SendsOnceClaimed job claim l) (sym logged) (once_claimed job claim stage log rest at))
     (subst (IsRelated job) (sym logged) (related_at job claim stage log rest sound at))
-    (subst (AnswersGrantPlace job claim (line_outcome f)) (sym logged)
-    (answers_at job claim stage misses.place log rest (line_outcome f) sound at expected short.part.unfinished))
-    (unread job (line_outcome f) now.log (record {
+    (subst (AnswersGrantPlace job claim (prover_line_outcome f)) (sym logged)
+    (answers_at job claim stage misses.place log rest (prover_line_outcome f) sound at expected short.part.unfinished))
+    (unread job (prover_line_outcome f) now.log (record {
       turn = turns_at job stage;
       unheard = λ heard. not_heard job claim stage misses.place log rest [] sound at expected within short.part.unfinished
           (subst (λ l. Hears (task_of job []) l (turns_at job stage)) (ap (sent_by Verifier) logged ∙ came_more Prover log rest) heard);
@@ -513,7 +513,7 @@ stops_taking moves job claim stage log mid other f first now sound at same misse
         (has_answered job claim stage misses.place log misses.rest inputs wires sound at (sym same ∙ misses.expected)
         (within_longest misses.place misses.rest misses.short.part.few) misses.short.part.unfinished witness)
 
-    comes_so : ComesAt (IsLogAt job claim) (prover_expects job) Verifier stage now.log
+    comes_so : ComesAt (IsProverLogAt job claim) (prover_expects job) Verifier stage now.log
     comes_so = record {
       before = log;
       waited = at;
@@ -525,7 +525,7 @@ stops_taking moves job claim stage log mid other f first now sound at same misse
     }
 
     by_fault : (f : LineFault) → IsShortBy Verifier misses.place misses.rest f now → CountsCalls f first now
-        → (lines.IsNoBadByte f → IsCutShort misses.place misses.rest) → IsOutcome job claim now.log first now (line_outcome f)
+        → (lines.IsNoBadByte f → IsCutShort misses.place misses.rest) → IsOutcome job claim now.log first now (prover_line_outcome f)
     by_fault (fault.PeerEnded place_at) cause calls cut =
         let begun = cut tt in
         (record { stage = stage; comes = comes_so; cause = (begun.goes_on, begun.short) }, cause.0, cause.1, cause.2)
@@ -551,7 +551,7 @@ spelled job given rounds pairs d wires element code number =
     ((corrections_frame d, challenge_frame element) ∷ (s ++ o, verdict_frame code number) ∷ [])))
 
 -- a session whose verdict was read has ended as it says
-ends_verdict : (job : ProverJob) (claim : Claim) (first : LinkSnapshot) (frame : Frame) (code number : ℕ) (line : LinkSnapshot) → IsSound job
+ends_verdict : (job : ProverJob) (claim : Claim) (first : LinkSnapshot) (frame : Frame) (code number : ℕ) (line : LinkSnapshot) → IsSoundJob job
     → Comes job claim first awaits_verdict frame line → Allows expect.Verdict frame → frame ≡ verdict code number
     → HasEnded job claim first (verdict_outcome code number) line
 ends_verdict job claim first frame code number line sound come allowed is =
@@ -620,12 +620,12 @@ ends_verdict job claim first frame code number line sound come allowed is =
     honest (suc c) = ended
 
 -- that every check holds
-pub ends_accepted : (job : ProverJob) (claim : Claim) (first : LinkSnapshot) (frame : Frame) (number : ℕ) (line : LinkSnapshot) → IsSound job
+pub ends_accepted : (job : ProverJob) (claim : Claim) (first : LinkSnapshot) (frame : Frame) (number : ℕ) (line : LinkSnapshot) → IsSoundJob job
     → Comes job claim first awaits_verdict frame line → Allows expect.Verdict frame → frame ≡ verdict 0 number → HasEnded job claim first outcome.Accepted line
 ends_accepted job claim first frame number line = ends_verdict job claim first frame 0 number line
 
 -- or that one does not
-pub ends_rejected : (job : ProverJob) (claim : Claim) (first : LinkSnapshot) (frame : Frame) (result : ProverOutcome) (line : LinkSnapshot) → IsSound job
+pub ends_rejected : (job : ProverJob) (claim : Claim) (first : LinkSnapshot) (frame : Frame) (result : ProverOutcome) (line : LinkSnapshot) → IsSoundJob job
     → Comes job claim first awaits_verdict frame line → Allows expect.Verdict frame → IsRejection frame result → HasEnded job claim first result line
 ends_rejected job claim first frame (outcome.Rejected zero number) line sound come allowed (some, is) = absurd (omega (arith, some))
 ends_rejected job claim first frame (outcome.Rejected (suc code) number) line sound come allowed (some, is) =

@@ -9,8 +9,8 @@ use Rattle.frame_link.specs.Lines.{LinkSnapshot}
 use Rattle.frame_link.proofs.LineLemmas.{none_is_some}
 use Rattle.session_core.specs.Jobs.{ProverJob, Suits}
 use Rattle.session_prover.specs.declared.note.ProverOutcome.{ProverOutcome}
-use Rattle.session_prover.specs.Outcomes.{claim_outcome, line_outcome}
-use Rattle.session_prover.specs.Stages.{Claim, greeted_log, granted_log, IsLogTaken, RefusedFor, greeting, IsSound, IsNoGrant, AnswersEach}
+use Rattle.session_prover.specs.Outcomes.{claim_outcome, prover_line_outcome}
+use Rattle.session_prover.specs.Stages.{Claim, greeted_log, granted_log, IsLogTaken, RefusedFor, greeting, IsSoundJob, IsNoGrant, AnswersEach}
 use Rattle.session_prover.specs.Notes.{AnswersGrantPlace, IsRelated, task_of, IsOutcome, SendsHonestly, HasEnded}
 use Rattle.session_prover.proofs.Heard.{greeted_heard, granted_heard, granted_sent, IsUnheard, unread, Hears, greeted_sent, from_ended, honest_bytes, one_grant}
 use Rattle.session_prover.proofs.Answering.{suits_is, related_greeting, answer_exists, answer_is_honest, related_part}
@@ -41,7 +41,7 @@ no_bytes : (task : ProverTask) → Hears task [] 0 → ⊥
 no_bytes task heard = absurd (omega (arith, ap length heard.begun))
 
 -- the greeting is due
-greeting_due : (job : ProverJob) (claim : Claim) → IsSound job → claim.answer ≡ None → IsDue job claim [] (greeting job)
+greeting_due : (job : ProverJob) (claim : Claim) → IsSoundJob job → claim.answer ≡ None → IsDue job claim [] (greeting job)
 greeting_due job claim sound unasked = record {
   honest = λ inputs wires witness. greets job inputs [] (no_bytes (task_of job inputs));
   asked = λ more. inl unasked;
@@ -51,8 +51,8 @@ greeting_due job claim sound unasked = record {
 }
 
 -- it is not sent
-pub stops_greeting : (job : ProverJob) (claim : Claim) (first : LinkSnapshot) (f : LineFault) (now : LinkSnapshot) → IsSound job → claim.answer ≡ None
-    → now.log ≡ [] → KeepsDue (greeting job) f first now → HasEnded job claim first (line_outcome f) now
+pub stops_greeting : (job : ProverJob) (claim : Claim) (first : LinkSnapshot) (f : LineFault) (now : LinkSnapshot) → IsSoundJob job → claim.answer ≡ None
+    → now.log ≡ [] → KeepsDue (greeting job) f first now → HasEnded job claim first (prover_line_outcome f) now
 stops_greeting job claim first f now sound unasked none kept =
     stops_sending job claim first (greeting job) f now
     (subst (λ l. IsDue job claim l (greeting job)) (sym none) (greeting_due job claim sound unasked)) (inl (unasked, none)) kept
@@ -105,7 +105,7 @@ grant_taken job claim first frame given new come allowed is = record {
     fits (inr (code, is_too, ranged)) = absurd (cc)
 
 -- no grant that suits has come
-pub ends_ungranted : (job : ProverJob) (claim : Claim) (first : LinkSnapshot) (frame : Frame) (result : ProverOutcome) (new : LinkSnapshot) → IsSound job
+pub ends_ungranted : (job : ProverJob) (claim : Claim) (first : LinkSnapshot) (frame : Frame) (result : ProverOutcome) (new : LinkSnapshot) → IsSoundJob job
     → Comes job claim first awaits_grant frame new → Allows expect.Grant frame → IsNoGrant job frame result → HasEnded job claim first result new
 ends_ungranted job claim first frame outcome.BadGrant new sound come allowed (given, is, unsuited) =
     let taken : IsGrantTaken job first given new = grant_taken job claim first frame given new come allowed is in
@@ -145,7 +145,7 @@ granted_is job given suits within = record {
 }
 
 -- the claimant has refused
-pub ends_unclaimed : (job : ProverJob) (claim : Claim) (first : LinkSnapshot) (given : Grant) (f : ClaimFault) (line : LinkSnapshot) → IsSound job
+pub ends_unclaimed : (job : ProverJob) (claim : Claim) (first : LinkSnapshot) (given : Grant) (f : ClaimFault) (line : LinkSnapshot) → IsSoundJob job
     → Suits job.file.params job.statement.program given → IsGrantTaken job first given line → RefusedFor claim given f
     → HasEnded job claim first (claim_outcome f) line
 ends_unclaimed job claim first given f line sound suits taken refused =

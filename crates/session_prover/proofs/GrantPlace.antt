@@ -14,7 +14,7 @@ use Rattle.frame_link.proofs.LineLemmas.{none_is_some, front_goes_on}
 use Rattle.session_core.specs.Jobs.{ProverJob, Suits}
 use Rattle.session_prover.specs.declared.note.ProverOutcome.{ProverOutcome}
 use Rattle.session_prover.specs.Outcomes.{claim_outcome}
-use Rattle.session_prover.specs.Stages.{Claim, ClaimedFor, greeted_log, granted_log, IsSound}
+use Rattle.session_prover.specs.Stages.{Claim, ClaimedFor, greeted_log, granted_log, IsSoundJob}
 use Rattle.session_prover.specs.Notes.{AnswersGrantPlace, IsClaimRefused}
 use Rattle.session_prover.proofs.Heard.{same_bytes_grant, greeted_heard, granted_heard}
 use Rattle.session_prover.proofs.Answering.{suits_is}
@@ -84,7 +84,7 @@ module _ (job : ProverJob) (claim : Claim) (frame : Frame) (log : List (Side × 
   }
 
 -- it claimed the units of a grant that was read
-pub answers_claimed : (job : ProverJob) (claim : Claim) (given : Grant) (result : ProverOutcome) (log : List (Side × ℕ)) → IsSound job → ClaimedFor claim given
+pub answers_claimed : (job : ProverJob) (claim : Claim) (given : Grant) (result : ProverOutcome) (log : List (Side × ℕ)) → IsSoundJob job → ClaimedFor claim given
     → IsGrant job.file.params job.statement.program given → BeginsWith log (granted_log job given) → AnswersGrantPlace job claim result log
 answers_claimed job claim given result log sound claimed granted begun = record {
   refused = λ fault is. absurd (let first = claimed.answer in cc);

@@ -6,7 +6,7 @@ use Rattle.zk_model.specs.Transcript.{bytes_from, sent_by, Grant, TreeReply, rep
 use Rattle.zk_model.specs.declared.Side.{Side}
 use Rattle.zk_model.specs.declared.Side.TheVariants.{Prover, Verifier}
 use Rattle.zk_model.specs.Frames.{Frame, frame_spelling, AreReplies, grant, replies, challenge, verdict, Allows, FitsGrant}
-use Rattle.session_prover.specs.Stages.{asked_log, replied_log, AreAskedRounds, Fixes, setup_for, greeting, sums_for, openings_for, Claim, IsLogAt, all_asks, greeted_log, granted_log, rounds_log, fixed_log, challenged_log, opened_log, IsSound}
+use Rattle.session_prover.specs.Stages.{asked_log, replied_log, AreAskedRounds, Fixes, setup_for, greeting, sums_for, openings_for, Claim, IsProverLogAt, all_asks, greeted_log, granted_log, rounds_log, fixed_log, challenged_log, opened_log, IsSoundJob}
 use Rattle.std.proofs.lemmas.Grind.{flat_map-append}
 use Rattle.session_core.specs.Jobs.{ProverJob}
 use Rattle.std.specs.Prelude.{All}
@@ -298,7 +298,7 @@ pub unread : (job : ProverJob) (outcome : ProverOutcome) (log : List (Side × �
 unread job outcome log unheard t is = absurd (unheard.unheard (in_order_heard job t log unheard.turn is))
 
 -- a verdict that was read
-pub read_so : (job : ProverJob) (outcome : ProverOutcome) (log : List (Side × ℕ)) (code number : ℕ) → IsSound job → ReadsVerdict job log code number
+pub read_so : (job : ProverJob) (outcome : ProverOutcome) (log : List (Side × ℕ)) (code number : ℕ) → IsSoundJob job → ReadsVerdict job log code number
     → outcome ≡ verdict_outcome code number → AnswersVerdict job outcome log
 read_so job outcome log code number sound reads is t in_order =
     let same : reads.t ≡ t =
@@ -321,7 +321,7 @@ made job given rounds pairs d wires element code number = record {
   number = number;
 }
 
-pub setup_is : (job : ProverJob) (given : Grant) (rounds : List Round) → IsSound job → IsGrant job.file.params job.statement.program given
+pub setup_is : (job : ProverJob) (given : Grant) (rounds : List Round) → IsSoundJob job → IsGrant job.file.params job.statement.program given
     → AreAskedRounds job given rounds → IsSetup job.file.params job.statement.program (setup_for job given rounds)
 setup_is job given rounds sound granted asked = record {
   hello = wanted_is_hello job.file.id job.statement sound.file.id sound.stated;
@@ -331,7 +331,7 @@ setup_is job given rounds sound granted asked = record {
 }
 
 -- honest corrections are as many elements as there are given values
-pub committed : (job : ProverJob) (given : Grant) (rounds : List Round) (pairs : List Pair) (d : List ℕ) → IsSound job
+pub committed : (job : ProverJob) (given : Grant) (rounds : List Round) (pairs : List Pair) (d : List ℕ) → IsSoundJob job
     → IsSetup job.file.params job.statement.program (setup_for job given rounds) → IsProverView job.file (setup_for job given rounds) pairs
     → d ≡ honest_corrections job.given pairs
     → IsCommitment job.file.params job.statement.program (record { setup = setup_for job given rounds; corrections = d })
@@ -350,14 +350,14 @@ viewed : (job : ProverJob) (given : Grant) (rounds : List Round) (pairs : List P
     → IsView job.file job.statement (record { setup = setup_for job given rounds; corrections = d }) (view_of pairs wires)
 viewed job given rounds pairs d wires fixes = record { pairs = fixes.seen; given = fixes.fixed.given_are; carried = fixes.fixed.carried }
 
-pub fixed_commitment : (job : ProverJob) (given : Grant) (rounds : List Round) (pairs : List Pair) (d : List ℕ) (wires : WirePairs) → IsSound job
+pub fixed_commitment : (job : ProverJob) (given : Grant) (rounds : List Round) (pairs : List Pair) (d : List ℕ) (wires : WirePairs) → IsSoundJob job
     → Fixes job given rounds pairs d wires
     → IsCommitment job.file.params job.statement.program (record { setup = setup_for job given rounds; corrections = d })
 fixed_commitment job given rounds pairs d wires sound fixes =
     committed job given rounds pairs d sound (setup_is job given rounds sound fixes.granted fixes.asked) fixes.seen fixes.fixed.corrections_are
 
 -- it is in range
-pub made_is : (job : ProverJob) (given : Grant) (rounds : List Round) (pairs : List Pair) (d : List ℕ) (wires : WirePairs) (element code number : ℕ) → IsSound job
+pub made_is : (job : ProverJob) (given : Grant) (rounds : List Round) (pairs : List Pair) (d : List ℕ) (wires : WirePairs) (element code number : ℕ) → IsSoundJob job
     → Fixes job given rounds pairs d wires → IsElement element → code ≤ 2 → number < 2 ^ 32
     → IsTranscript job.file.params job.statement.program (made job given rounds pairs d wires element code number)
 made_is job given rounds pairs d wires element code number sound fixes is said numbered = record {
@@ -398,7 +398,7 @@ made_honest job given rounds pairs d wires element code number inputs values fix
 -- ---- whatever was replied
 
 -- the pairs that the prover sees fix its corrections and the pairs of all wires
-pub fixed_by : (job : ProverJob) (given : Grant) (rounds : List Round) (pairs : List Pair) → IsSound job → IsGrant job.file.params job.statement.program given
+pub fixed_by : (job : ProverJob) (given : Grant) (rounds : List Round) (pairs : List Pair) → IsSoundJob job → IsGrant job.file.params job.statement.program given
     → AreAskedRounds job given rounds → IsProverView job.file (setup_for job given rounds) pairs
     → (d : List ℕ) × (wires : WirePairs) × Fixes job given rounds pairs d wires
 fixed_by job given rounds pairs sound granted asked seen =
@@ -423,7 +423,7 @@ pub record IsFixable (job : ProverJob) (given : Grant) (rounds : List Round) : T
   pub wires : WirePairs
   pub fixes : Fixes job given rounds pairs d wires
 
-pub fixable : (job : ProverJob) (given : Grant) (rounds : List Round) → IsSound job → IsGrant job.file.params job.statement.program given
+pub fixable : (job : ProverJob) (given : Grant) (rounds : List Round) → IsSoundJob job → IsGrant job.file.params job.statement.program given
     → AreAskedRounds job given rounds → IsFixable job given rounds
 fixable job given rounds sound granted asked =
     let found : (pairs : List Pair) × IsProverView job.file (setup_for job given rounds) pairs =
@@ -448,7 +448,7 @@ turns_within : (turns : List (List ℕ × List ℕ)) (a c e : List ℕ × List �
 turns_within turns a c e k n same few = omega (arith, length-append turns (c ∷ e ∷ []), same, few)
 
 -- the asks of all units, or the corrections where there is no round, once the grant has come
-pub asks_after : (job : ProverJob) (given : Grant) (round : Round) (inputs values rest : List ℕ) → IsSound job
+pub asks_after : (job : ProverJob) (given : Grant) (round : Round) (inputs values rest : List ℕ) → IsSoundJob job
     → IsFixable job given (round ∷ []) → IsWitness job.statement inputs values job.given
     → SentAfter (task_of job inputs) (grant_frame given ++ rest) 1 (greeting job ++ flat_map ask_frame round.asks)
 asks_after job given round inputs values rest sound can witness = (
@@ -461,7 +461,7 @@ asks_after job given round inputs values rest sound can witness = (
 )
 
 -- corrections, once all rounds are whole
-pub corrections_after : (job : ProverJob) (given : Grant) (rounds : List Round) (pairs : List Pair) (d : List ℕ) (wires : WirePairs) (inputs values rest : List ℕ) → IsSound job
+pub corrections_after : (job : ProverJob) (given : Grant) (rounds : List Round) (pairs : List Pair) (d : List ℕ) (wires : WirePairs) (inputs values rest : List ℕ) → IsSoundJob job
     → Fixes job given rounds pairs d wires → IsWitness job.statement inputs values job.given
     → SentAfter (task_of job inputs) ((grant_frame given ++ answered (round_turns rounds)) ++ rest) (suc (rounds_of job.file.params.kind))
     ((greeting job ++ said (round_turns rounds)) ++ corrections_frame d)
@@ -490,7 +490,7 @@ all_sent job given rounds pairs d wires element =
     ((greeting job ++ said (round_turns rounds)) ++ corrections_frame d) ++ sums_frame (sums_for job given pairs wires element) ++ openings_frame (openings_for job wires)
 
 -- sums and openings too, once the challenge has come
-pub openings_after : (job : ProverJob) (given : Grant) (rounds : List Round) (pairs : List Pair) (d : List ℕ) (wires : WirePairs) (element : ℕ) (inputs values rest : List ℕ) → IsSound job
+pub openings_after : (job : ProverJob) (given : Grant) (rounds : List Round) (pairs : List Pair) (d : List ℕ) (wires : WirePairs) (element : ℕ) (inputs values rest : List ℕ) → IsSoundJob job
     → Fixes job given rounds pairs d wires → IsElement element → IsWitness job.statement inputs values job.given
     → SentAfter (task_of job inputs) (((grant_frame given ++ answered (round_turns rounds)) ++ challenge_frame element) ++ rest) (suc (suc (rounds_of job.file.params.kind)))
     (all_sent job given rounds pairs d wires element)
@@ -521,7 +521,7 @@ past_last (turn ∷ turns) c e =
     ap (λ l. turn.0 ++ l) (past_last turns c e) ∙ sym (append_assoc turn.0 (said turns) (c.0 ++ e.0))
 
 -- and nothing more once the verdict has come
-pub finishes : (job : ProverJob) (given : Grant) (rounds : List Round) (pairs : List Pair) (d : List ℕ) (wires : WirePairs) (element code number : ℕ) (inputs values : List ℕ) → IsSound job
+pub finishes : (job : ProverJob) (given : Grant) (rounds : List Round) (pairs : List Pair) (d : List ℕ) (wires : WirePairs) (element code number : ℕ) (inputs values : List ℕ) → IsSoundJob job
     → Fixes job given rounds pairs d wires → IsElement element → code ≤ 2 → number < 2 ^ 32 → IsWitness job.statement inputs values job.given
     → AreHonestBytes (task_of job inputs) (((grant_frame given ++ answered (round_turns rounds)) ++ challenge_frame element) ++ verdict_frame code number)
     (all_sent job given rounds pairs d wires element)
@@ -646,8 +646,8 @@ turns_at job awaits_verdict = suc (suc (rounds_of job.file.params.kind))
 turns_at job other = 0
 
 -- where what came goes on as the turns of some session do, it goes on with a frame of the place
-pub next_frame : (job : ProverJob) (claim : Claim) (stage : ProverStage) (awaited : Expect) (before : List (Side × ℕ)) (bytes inputs : List ℕ) → IsSound job
-    → IsLogAt job claim stage before → prover_expects job stage ≡ Some awaited
+pub next_frame : (job : ProverJob) (claim : Claim) (stage : ProverStage) (awaited : Expect) (before : List (Side × ℕ)) (bytes inputs : List ℕ) → IsSoundJob job
+    → IsProverLogAt job claim stage before → prover_expects job stage ≡ Some awaited
     → Hears (task_of job inputs) (sent_by Verifier before ++ bytes) (turns_at job stage) → IsNextFrame awaited bytes
 next_frame job claim awaits_grant awaited before bytes inputs sound at is heard =
     subst (λ e. IsNextFrame e bytes) (sym (same_stage expect.Grant awaited is))
@@ -671,8 +671,8 @@ next_frame job claim awaits_verdict awaited before bytes inputs sound opened is 
 next_frame job claim has_ended awaited before bytes inputs sound at is heard = absurd at
 
 -- what was sent where a prover waits is what an honest prover sends after as many turns
-sent_after : (job : ProverJob) (claim : Claim) (stage : ProverStage) (before : List (Side × ℕ)) (rest inputs values : List ℕ) → IsSound job
-    → IsLogAt job claim stage before → IsWitness job.statement inputs values job.given
+sent_after : (job : ProverJob) (claim : Claim) (stage : ProverStage) (before : List (Side × ℕ)) (rest inputs values : List ℕ) → IsSoundJob job
+    → IsProverLogAt job claim stage before → IsWitness job.statement inputs values job.given
     → SentAfter (task_of job inputs) (sent_by Verifier before ++ rest) (turns_at job stage) (sent_by Prover before)
 sent_after job claim awaits_grant before rest inputs values sound at witness = ap (sent_by Prover) at.1 ∙ greeted_sent job
 sent_after job claim (awaits_replies given came) before rest inputs values sound (claimed, some, at) witness =
@@ -704,7 +704,7 @@ sent_after job claim has_ended before rest inputs values sound at witness = absu
 
 -- Where a prover waits, and what came since is no whole frame, the next turn was not heard.
 pub not_heard : (job : ProverJob) (claim : Claim) (stage : ProverStage) (awaited : Expect) (before : List (Side × ℕ)) (rest : List ℕ) (inputs : List ℕ)
-    → IsSound job → IsLogAt job claim stage before → prover_expects job stage ≡ Some awaited
+    → IsSoundJob job → IsProverLogAt job claim stage before → prover_expects job stage ≡ Some awaited
     → length rest ≤ longest awaited → IsUnfinished awaited rest
     → Hears (task_of job inputs) (sent_by Verifier before ++ rest) (turns_at job stage) → ⊥
 not_heard job claim stage awaited before rest inputs sound at is few unfinished heard =
@@ -713,7 +713,7 @@ not_heard job claim stage awaited before rest inputs sound at is few unfinished 
 
 -- Where a prover waits, and what came since is no whole frame, it has sent all that an honest prover sends.
 pub has_answered : (job : ProverJob) (claim : Claim) (stage : ProverStage) (awaited : Expect) (before : List (Side × ℕ)) (rest : List ℕ) (inputs values : List ℕ)
-    → IsSound job → IsLogAt job claim stage before → prover_expects job stage ≡ Some awaited
+    → IsSoundJob job → IsProverLogAt job claim stage before → prover_expects job stage ≡ Some awaited
     → length rest ≤ longest awaited → IsUnfinished awaited rest → IsWitness job.statement inputs values job.given
     → HasEndedHonestly (task_of job inputs) (before ++ bytes_from Verifier rest)
 has_answered job claim stage awaited before rest inputs values sound at is few unfinished witness =

@@ -28,7 +28,7 @@ pub record HasSpoken (verifier : VerifierTask) (log : List (Side × ℕ)) : Type
 -- The peer is an honest verifier with the same statement and a file that is dealt with the job's, whose given values give the
 -- claims: what came from it is a beginning of what such a verifier says to what the prover sent, and it ended only after all
 -- of that.
-pub record HasHonestPeer
+pub record HasHonestVerifier
     (job : ProverJob)
     (inputs : List ℕ)
     (verifier : VerifierTask)
@@ -42,9 +42,9 @@ pub record HasHonestPeer
   pub ended : (at : ℕ) → outcome ≡ PeerEnded at → HasSpoken verifier log
 
 -- with an honest peer, where no claim was refused and the link's count did not rise, the session is accepted, unless memory was missing
-abbrev pub Completes : ProverJob → Claim → List (Side × ℕ) → LinkSnapshot → LinkSnapshot → ProverOutcome
+abbrev pub ProverCompletes : ProverJob → Claim → List (Side × ℕ) → LinkSnapshot → LinkSnapshot → ProverOutcome
     → Type 0
-Completes job claim log first now outcome = (inputs : List ℕ) (verifier : VerifierTask)
-    → HasHonestPeer job inputs verifier outcome log
+ProverCompletes job claim log first now outcome = (inputs : List ℕ) (verifier : VerifierTask)
+    → HasHonestVerifier job inputs verifier outcome log
     → ((fault : ClaimFault) → claim.answer ≡ Some (Err fault) → ⊥) → ¬ Rose first.faults now.faults
     → (outcome ≡ Accepted) ⊎ (outcome ≡ NoMemory)

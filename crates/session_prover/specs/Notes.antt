@@ -22,7 +22,7 @@ use Rattle.frame_link.specs.Lines.{LinkSnapshot, IsCutShort, counted_times}
 use Rattle.session_core.specs.Jobs.{ProverJob, Suits}
 use Rattle.session_core.specs.Cores.{ProverStage, ProverAnswers, prover_expects}
 use Rattle.session_prover.specs.Outcomes.{claim_outcome, verdict_outcome}
-use Rattle.session_prover.specs.Stages.{Claim, ClaimedFor, RefusedFor, AreAskedRounds, greeting, all_asks, greeted_log, granted_log, fixed_log, setup_for, IsLogAt, IsLogTaken}
+use Rattle.session_prover.specs.Stages.{Claim, ClaimedFor, RefusedFor, AreAskedRounds, greeting, all_asks, greeted_log, granted_log, fixed_log, setup_for, IsProverLogAt, IsLogTaken}
 use Rattle.session_prover.specs.declared.note.ProverOutcome.{ProverOutcome}
 use Rattle.session_prover.specs.declared.note.ProverOutcome.TheVariants.{Accepted, Rejected, PeerEnded, BadFrame, BadGrant, PeerRefused, Broken, OutOfRange, Overlap, Full, Device, Link, NoMemory}
 use Rattle.session_driver.specs.Leaving.{RefusesSends, ComesAt}
@@ -52,7 +52,7 @@ IsAskedRight job claim log = (claim.answer ≡ None)
     × (ClaimedFor claim given ⊎ ((fault : ClaimFault) × RefusedFor claim given fault)))
 
 -- The note has the units that the claimant claimed, and none where it claimed none; it was asked right.
-pub record IsGranted
+pub record HasClaimedUnits
     (job : ProverJob)
     (claim : Claim)
     (log : List (Side × ℕ))
@@ -78,13 +78,13 @@ pub record ReadsVerdict (job : ProverJob) (log : List (Side × ℕ)) (code numbe
   pub number_is : t.number ≡ number
 
 -- after what is logged where the prover waited, bytes came of the frame that it expected, and none past it; and this holds of both
-pub record StopsBehind
+pub record ProverStopsBehind
     (job : ProverJob)
     (claim : Claim)
     (log : List (Side × ℕ))
     (P : Expect → List ℕ → Type 0) : Type 0 where
   pub stage : ProverStage
-  pub comes : ComesAt (IsLogAt job claim) (prover_expects job) Verifier stage log
+  pub comes : ComesAt (IsProverLogAt job claim) (prover_expects job) Verifier stage log
   pub open comes use *
   pub cause : P place rest
 
@@ -111,7 +111,7 @@ IsAnswerDue job claim least log = ((claim.answer ≡ None) × (log ≡ [])) ⊎ 
 -- of which none was refused; or in the one send of an answer that was due.
 abbrev pub FailsLink : ProverJob → Claim → List (Side × ℕ) → LinkSnapshot → LinkSnapshot → Type 0
 FailsLink job claim log first now =
-    (StopsBehind job claim log IsCutShort × (now.sends ≡ counted_times (answers_in Prover log) first.sends)
+    (ProverStopsBehind job claim log IsCutShort × (now.sends ≡ counted_times (answers_in Prover log) first.sends)
     × (now.refused_sends ≡ first.refused_sends))
     ⊎ (IsAnswerDue job claim 1 log × (now.sends ≡ counted_times (answers_in Prover log + 1) first.sends)
     × (now.refused_sends ≡ counted true first.refused_sends))
@@ -124,12 +124,12 @@ abbrev pub IsOutcome : ProverJob → Claim → List (Side × ℕ) → LinkSnapsh
 IsOutcome job claim log first now Accepted = (number : ℕ) × ReadsVerdict job log 0 number
 IsOutcome job claim log first now (Rejected code number) = (1 ≤ code) × ReadsVerdict job log code number
 IsOutcome job claim log first now (PeerEnded at) =
-    StopsBehind job claim log (λ expect rest. CanGoOn expect rest × (length rest < frame_length expect rest))
+    ProverStopsBehind job claim log (λ expect rest. CanGoOn expect rest × (length rest < frame_length expect rest))
     × (at ≡ length (sent_by Verifier log))
     × IfSome now.ended (λ ended. ended ≡ true)
     × IfSome now.to_come (λ bytes. bytes ≡ [])
 IsOutcome job claim log first now (BadFrame at) =
-    (n : ℕ) × StopsBehind job claim log (λ expect rest. IsFirstBad expect rest n
+    (n : ℕ) × ProverStopsBehind job claim log (λ expect rest. IsFirstBad expect rest n
     × (at + length rest ≡ length (sent_by Verifier log) + n))
 IsOutcome job claim log first now BadGrant =
     (given : Grant) × FitsGrant given × ¬ Suits job.file.params job.statement.program given × (log ≡ granted_log job given)
@@ -142,7 +142,7 @@ IsOutcome job claim log first now (Full slots) = IsClaimRefused job claim log (r
 IsOutcome job claim log first now Device = IsClaimRefused job claim log refusal.Device
 IsOutcome job claim log first now Link = Rose first.faults now.faults × FailsLink job claim log first now
 IsOutcome job claim log first now NoMemory =
-    StopsBehind job claim log IsCutShort ⊎ (IsAnswerDue job claim 0 log ⊎ IsClaimRefused job claim log refusal.NoMemory)
+    ProverStopsBehind job claim log IsCutShort ⊎ (IsAnswerDue job claim 0 log ⊎ IsClaimRefused job claim log refusal.NoMemory)
 
 -- the count of faults does not fall, and rises only where the link failed
 pub record CountsOutcome (outcome : ProverOutcome) (before after : ℕ) : Type 0 where

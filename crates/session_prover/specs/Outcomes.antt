@@ -19,17 +19,17 @@ claim_outcome claim.Device = Device
 claim_outcome claim.NoMemory = NoMemory
 
 -- of a frame that did not pass
-abbrev pub line_outcome : LineFault → ProverOutcome
-line_outcome (line.PeerEnded at) = PeerEnded at
-line_outcome (line.BadFrame place) = BadFrame place
-line_outcome line.Link = Link
-line_outcome line.NoMemory = NoMemory
+abbrev pub prover_line_outcome : LineFault → ProverOutcome
+prover_line_outcome (line.PeerEnded at) = PeerEnded at
+prover_line_outcome (line.BadFrame place) = BadFrame place
+prover_line_outcome line.Link = Link
+prover_line_outcome line.NoMemory = NoMemory
 
 -- of a frame that the prover refused
-abbrev pub session_outcome : ProverFault → ProverOutcome
-session_outcome session.BadGrant = BadGrant
-session_outcome (session.PeerRefused code) = PeerRefused code
-session_outcome session.NoMemory = NoMemory
+abbrev pub prover_fault_outcome : ProverFault → ProverOutcome
+prover_fault_outcome session.BadGrant = BadGrant
+prover_fault_outcome (session.PeerRefused code) = PeerRefused code
+prover_fault_outcome session.NoMemory = NoMemory
 
 -- of a verdict that was read, by its code and its number
 abbrev pub verdict_outcome : ℕ → ℕ → ProverOutcome

@@ -9,8 +9,8 @@ use Rattle.zk_port.specs.Links.{LinkState}
 use Rattle.zk_port.specs.Logs.{put_before}
 use Rattle.frame_link.specs.Lines.{snapshot}
 use Rattle.session_core.specs.Jobs.{ProverJob}
-use Rattle.session_prover.specs.Completing.{Completes}
-use Rattle.session_prover.specs.Notes.{AnswersGrantPlace, AnswersVerdict, CountsOutcome, IsGranted, IsLogged, IsOutcome, IsRelated, SendsEach, SendsHonestly, SendsOnceClaimed}
+use Rattle.session_prover.specs.Completing.{ProverCompletes}
+use Rattle.session_prover.specs.Notes.{AnswersGrantPlace, AnswersVerdict, CountsOutcome, HasClaimedUnits, IsLogged, IsOutcome, IsRelated, SendsEach, SendsHonestly, SendsOnceClaimed}
 use Rattle.session_prover.specs.Stages.{Claim}
 use Rattle.session_prover.specs.declared.note.ProverNote.{ProverNote}
 use Rattle.session_prover.specs.declared.note.ProverOutcome.{ProverOutcome}
@@ -20,7 +20,7 @@ use Rattle.session_prover.specs.declared.note.ProverOutcome.{ProverOutcome}
 -- what an honest prover sends, and nothing past the greeting before the units are claimed; that the corrections fit the keys; what the
 -- link tells beside the log; how often it was used and failed; that it is ended; and that with an honest verifier the session is
 -- accepted, unless memory was missing.
-pub record IsSessionOf
+pub record IsProverSession
     (job : ProverJob)
     (claim : Claim)
     (granted : Option Span)
@@ -29,7 +29,7 @@ pub record IsSessionOf
     (link : LinkState) : Type 0 where
   pub first : LinkState
   pub fresh : IsFreshLink first
-  pub granted_is : IsGranted job claim log granted
+  pub granted_is : HasClaimedUnits job claim log granted
   pub cause : IsOutcome job claim log (snapshot Prover [] first) (snapshot Prover log link) outcome
   pub answers : AnswersGrantPlace job claim outcome log
   pub verdict : AnswersVerdict job outcome log
@@ -42,8 +42,8 @@ pub record IsSessionOf
   pub receives : link.receives ≤ first.receives + length (sent_by Verifier log) + 1
   pub faults : CountsOutcome outcome first.faults link.faults
   pub ended : link.is_open ≡ false
-  pub complete : Completes job claim log (snapshot Prover [] first) (snapshot Prover log link) outcome
+  pub complete : ProverCompletes job claim log (snapshot Prover [] first) (snapshot Prover log link) outcome
 
 -- a note is one of a session in which that was claimed
-abbrev pub IsNote : {L : Type 0} → (L → LinkState) → ProverJob → Claim → ProverNote L → Type 0
-IsNote link_tells job claim note = IsSessionOf job claim note.granted note.outcome note.log (link_tells note.link)
+abbrev pub IsProverNote : {L : Type 0} → (L → LinkState) → ProverJob → Claim → ProverNote L → Type 0
+IsProverNote link_tells job claim note = IsProverSession job claim note.granted note.outcome note.log (link_tells note.link)

@@ -28,7 +28,7 @@ use Rattle.zk_model.specs.declared.Expect.{Expect}
 use Rattle.session_core.specs.declared.fault.ProverFault.{ProverFault}
 use Rattle.session_driver.specs.declared.drive.Outcome.{Outcome}
 use Rattle.session_driver.specs.declared.drive.Outcome.TheVariants.{Done, Refused, Cut}
-use Rattle.session_prover.specs.Outcomes.{claim_outcome, line_outcome, session_outcome}
+use Rattle.session_prover.specs.Outcomes.{claim_outcome, prover_line_outcome, prover_fault_outcome}
 use Rattle.session_driver.specs.Leaving.{GoesWell}
 use Rattle.frame_link.specs.Lines.{LinkSnapshot}
 
@@ -149,14 +149,14 @@ pub record IsOpenedLog (job : ProverJob) (claim : Claim) (log : List (Side × �
 
 -- What is logged where a prover waits: its greeting, and the frames that came, each with its answer. The claimant is asked
 -- once a grant has come, which is answered only where its units are claimed.
-abbrev pub IsLogAt : ProverJob → Claim → ProverStage → List (Side × ℕ) → Type 0
-IsLogAt job claim awaits_grant log = (claim.answer ≡ None) × (log ≡ greeted_log job)
-IsLogAt job claim (awaits_replies given came) log =
+abbrev pub IsProverLogAt : ProverJob → Claim → ProverStage → List (Side × ℕ) → Type 0
+IsProverLogAt job claim awaits_grant log = (claim.answer ≡ None) × (log ≡ greeted_log job)
+IsProverLogAt job claim (awaits_replies given came) log =
     ClaimedFor claim given × AreSomeReplies job given came × (log ≡ replied_log job given came)
-IsLogAt job claim (awaits_challenge given pairs wires) log = (rounds : List Round) × (d : List ℕ)
+IsProverLogAt job claim (awaits_challenge given pairs wires) log = (rounds : List Round) × (d : List ℕ)
     × ClaimedFor claim given × Fixes job given rounds pairs d wires × (log ≡ fixed_log job given rounds d)
-IsLogAt job claim awaits_verdict log = IsOpenedLog job claim log
-IsLogAt job claim has_ended log = ⊥
+IsProverLogAt job claim awaits_verdict log = IsOpenedLog job claim log
+IsProverLogAt job claim has_ended log = ⊥
 
 -- What is logged where a frame has come that is to be answered: a grant whose units are claimed, replies, or a challenge.
 abbrev pub IsLogTaken : ProverJob → Claim → ProverStage → Frame → List (Side × ℕ) → Type 0
@@ -182,7 +182,7 @@ AnswersEach first now = GoesWell Prover now.log first now
 -- ---- what a prover's calls over a line require and make of it
 
 -- a job over a file and a statement as they are read, whose program has few given values, products and opened wires
-pub record IsSound (job : ProverJob) : Type 0 where
+pub record IsSoundJob (job : ProverJob) : Type 0 where
   pub is : IsProverJob job
   pub file : IsProverFile job.file
   pub stated : IsStatement job.statement
@@ -223,23 +223,23 @@ IsRejection frame outcome = ⊥
 -- ---- who claims units
 
 -- what one who claims units tells: what it was asked for and answered, of how many it claims, and what an answer makes of it
-pub record Claims (C : Type 0) : Type 1 where
+pub record ClaimantTells (C : Type 0) : Type 1 where
   pub asked : C → Option (ℕ × ℕ)
   pub answer : C → Option (Result Span ClaimFault)
   pub total : C → ℕ
   pub moves : C → ℕ → ℕ → Result Span ClaimFault → C → Type 0
 
 -- by these
-abbrev pub claims_of : {C : Type 0} → (C → Option (ℕ × ℕ)) → (C → Option (Result Span ClaimFault)) → (C → ℕ)
-    → (C → ℕ → ℕ → Result Span ClaimFault → C → Type 0) → Claims C
-claims_of asked answer total moves = record { asked = asked; answer = answer; total = total; moves = moves }
+abbrev pub claimant_tells : {C : Type 0} → (C → Option (ℕ × ℕ)) → (C → Option (Result Span ClaimFault)) → (C → ℕ)
+    → (C → ℕ → ℕ → Result Span ClaimFault → C → Type 0) → ClaimantTells C
+claimant_tells asked answer total moves = record { asked = asked; answer = answer; total = total; moves = moves }
 
 -- what it was asked for, and answered
-abbrev pub claim_of : {C : Type 0} → Claims C → C → Claim
-claim_of claims claimant = record { asked = claims.asked claimant; answer = claims.answer claimant }
+abbrev pub told_claim : {C : Type 0} → ClaimantTells C → C → Claim
+told_claim claims claimant = record { asked = claims.asked claimant; answer = claims.answer claimant }
 
 -- it was asked for the units of this grant, and answered so
-pub record Claimed {C : Type 0} (claims : Claims C) (given : Grant) (answer : Result Span ClaimFault) (old new : C) : Type 0 where
+pub record Claimed {C : Type 0} (claims : ClaimantTells C) (given : Grant) (answer : Result Span ClaimFault) (old new : C) : Type 0 where
   pub asked : claims.asked new ≡ Some (given.start, given.count)
   pub told : claims.answer new ≡ Some answer
   pub moves : claims.moves old given.start given.count answer new
@@ -267,12 +267,12 @@ proving_expects true core = None
 proving_expects false core = prover_expects core.job core.stage
 
 -- how many frames it takes yet, at most
-abbrev pub frames_left : Bool → ProverStage → ℕ
-frames_left true stage = 0
-frames_left false stage = answers_left stage + 1
+abbrev pub prover_frames_left : Bool → ProverStage → ℕ
+prover_frames_left true stage = 0
+prover_frames_left false stage = answers_left stage + 1
 
 -- A grant came that suits, and lies in the file; its units were claimed, and it is answered.
-pub record AnswersClaimed {C : Type 0} (claims : Claims C) (old : Proved C) (frame : Frame) (answer : List Frame) (new : Proved C) : Type 0 where
+pub record AnswersClaimed {C : Type 0} (claims : ClaimantTells C) (old : Proved C) (frame : Frame) (answer : List Frame) (new : Proved C) : Type 0 where
   pub waits : old.core.stage ≡ awaits_grant
   pub given : Grant
   pub is : frame ≡ grant given
@@ -285,7 +285,7 @@ pub record AnswersClaimed {C : Type 0} (claims : Claims C) (old : Proved C) (fra
   pub accepted : new.accepted ≡ false
 
 -- replies came, or the challenge
-pub record AnswersBehind {C : Type 0} (old : Proved C) (frame : Frame) (answer : List Frame) (new : Proved C) : Type 0 where
+pub record ProverAnswersBehind {C : Type 0} (old : Proved C) (frame : Frame) (answer : List Frame) (new : Proved C) : Type 0 where
   pub behind : IsToAnswer old.core.stage
   pub answers : ProverAnswers old.core.job old.core.stage frame answer new.core.stage
   pub job : new.core.job ≡ old.core.job
@@ -309,7 +309,7 @@ pub record TurnsAway {C : Type 0} (old : Proved C) (frame : Frame) (outcome : Pr
   pub claimant : new.claimant ≡ old.claimant
 
 -- a grant came that suits, and its units were not claimed
-pub record RefusesClaim {C : Type 0} (claims : Claims C) (old : Proved C) (frame : Frame) (outcome : ProverOutcome) (new : Proved C) : Type 0 where
+pub record RefusesClaim {C : Type 0} (claims : ClaimantTells C) (old : Proved C) (frame : Frame) (outcome : ProverOutcome) (new : Proved C) : Type 0 where
   pub waits : old.core.stage ≡ awaits_grant
   pub given : Grant
   pub is : frame ≡ grant given
@@ -320,7 +320,7 @@ pub record RefusesClaim {C : Type 0} (claims : Claims C) (old : Proved C) (frame
   pub granted : new.granted ≡ old.granted
 
 -- its units were claimed, but the core refuses to answer it
-pub record LacksAnswer {C : Type 0} (claims : Claims C) (old : Proved C) (frame : Frame) (outcome : ProverOutcome) (new : Proved C) : Type 0 where
+pub record LacksAnswer {C : Type 0} (claims : ClaimantTells C) (old : Proved C) (frame : Frame) (outcome : ProverOutcome) (new : Proved C) : Type 0 where
   pub waits : old.core.stage ≡ awaits_grant
   pub given : Grant
   pub is : frame ≡ grant given
@@ -329,15 +329,15 @@ pub record LacksAnswer {C : Type 0} (claims : Claims C) (old : Proved C) (frame 
   pub claimed : Claimed claims given (Ok (span_of given)) old.claimant new.claimant
   pub fault : ProverFault
   pub refuses : ProverRefuses old.core.job awaits_grant frame fault
-  pub outcome_is : outcome ≡ session_outcome fault
+  pub outcome_is : outcome ≡ prover_fault_outcome fault
   pub granted : new.granted ≡ Some (span_of given)
 
 -- the core refuses replies, or the challenge
-pub record RefusesBehind {C : Type 0} (old : Proved C) (frame : Frame) (outcome : ProverOutcome) (new : Proved C) : Type 0 where
+pub record ProverRefusesBehind {C : Type 0} (old : Proved C) (frame : Frame) (outcome : ProverOutcome) (new : Proved C) : Type 0 where
   pub behind : IsToAnswer old.core.stage
   pub fault : ProverFault
   pub refuses : ProverRefuses old.core.job old.core.stage frame fault
-  pub outcome_is : outcome ≡ session_outcome fault
+  pub outcome_is : outcome ≡ prover_fault_outcome fault
   pub granted : new.granted ≡ old.granted
   pub claimant : new.claimant ≡ old.claimant
 
@@ -349,30 +349,30 @@ pub record ReadsRejection {C : Type 0} (old : Proved C) (frame : Frame) (outcome
   pub claimant : new.claimant ≡ old.claimant
 
 -- why it takes a frame for the last
-abbrev pub Stops : {C : Type 0} → Claims C → Proved C → Frame → ProverOutcome → Proved C → Type 0
+abbrev pub Stops : {C : Type 0} → ClaimantTells C → Proved C → Frame → ProverOutcome → Proved C → Type 0
 Stops claims old frame outcome new =
     TurnsAway old frame outcome new ⊎ RefusesClaim claims old frame outcome new ⊎ LacksAnswer claims old frame outcome new
-    ⊎ RefusesBehind old frame outcome new ⊎ ReadsRejection old frame outcome new
+    ⊎ ProverRefusesBehind old frame outcome new ⊎ ReadsRejection old frame outcome new
 
 -- what a prover's end does; it sends no refusals
-abbrev pub proves : {C : Type 0} → Claims C → Moves (Proved C) ProverOutcome
+abbrev pub proves : {C : Type 0} → ClaimantTells C → Moves (Proved C) ProverOutcome
 proves claims = record {
   expects = λ s. proving_expects s.accepted s.core;
   lack_code = λ s. None;
-  answers = λ s frame answer t. AnswersClaimed claims s frame answer t ⊎ AnswersBehind s frame answer t ⊎ ReadsAcceptance s frame answer t;
+  answers = λ s frame answer t. AnswersClaimed claims s frame answer t ⊎ ProverAnswersBehind s frame answer t ⊎ ReadsAcceptance s frame answer t;
   refuses = λ s frame outcome code t. (code ≡ None) × Stops claims s frame outcome t;
 }
 
 -- what holds of it between its steps: it is about the job, and there is a log that leads to where it waits
-pub record IsProving {C : Type 0} (claims : Claims C) (job : ProverJob) (now : Proved C) : Type 0 where
+pub record IsProving {C : Type 0} (claims : ClaimantTells C) (job : ProverJob) (now : Proved C) : Type 0 where
   pub job_is : now.core.job ≡ job
-  pub sound : IsSound job
+  pub sound : IsSoundJob job
   pub total : claims.answer now.claimant ≡ None → claims.total now.claimant ≤ job.file.params.total
   pub log : List (Side × ℕ)
-  pub at : now.accepted ≡ false → IsLogAt now.core.job (claim_of claims now.claimant) now.core.stage log
+  pub at : now.accepted ≡ false → IsProverLogAt now.core.job (told_claim claims now.claimant) now.core.stage log
 
 -- the outcome by which a session is noted that stopped so
 abbrev pub outcome_told : Outcome ProverOutcome → ProverOutcome
 outcome_told Done = Accepted
 outcome_told (Refused fault) = fault
-outcome_told (Cut fault) = line_outcome fault
+outcome_told (Cut fault) = prover_line_outcome fault

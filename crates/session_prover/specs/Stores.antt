@@ -15,7 +15,7 @@ use Rattle.claim_store.specs.declared.ClaimFault.{ClaimFault}
 -- A store was asked to claim so many units from this one on, and answered so: what it is now, by what it was before. Where it
 -- claimed them, they were free, its ranges are those of the others and of them, and a crash leaves them; where not, it says why, and has
 -- the claims that it had. Of its disk the areas change at most, which say the one or the other at any moment; the file of the journal stays.
-pub record Claims
+pub record StoreClaims
     {D : Type 0}
     (disk_state : D → DiskState)
     (before : ClaimState D)

@@ -1,6 +1,6 @@
 // What came of a session at the prover.
 ghost use Rattle.std.specs.Prelude.{◌≡◌};
-ghost use Rattle.session_prover.specs.Outcomes.{claim_outcome, line_outcome, session_outcome};
+ghost use Rattle.session_prover.specs.Outcomes.{claim_outcome, prover_line_outcome, prover_fault_outcome};
 
 use claim_store::ClaimFault;
 use frame_link::{LineFault, Log};
@@ -54,7 +54,7 @@ impl From<ClaimFault> for ProverOutcome {
 }
 
 impl From<LineFault> for ProverOutcome {
-    ghost from_gives = { λ fault o. o ≡ line_outcome fault };
+    ghost from_gives = { λ fault o. o ≡ prover_line_outcome fault };
 
     fn from(fault: LineFault) -> Self {
         match fault {
@@ -67,7 +67,7 @@ impl From<LineFault> for ProverOutcome {
 }
 
 impl From<ProverFault> for ProverOutcome {
-    ghost from_gives = { λ fault o. o ≡ session_outcome fault };
+    ghost from_gives = { λ fault o. o ≡ prover_fault_outcome fault };
 
     fn from(fault: ProverFault) -> Self {
         match fault {

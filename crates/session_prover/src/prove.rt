@@ -4,8 +4,8 @@ ghost use Rattle.zk_model.specs.Transcript.{sent_by};
 ghost use Rattle.zk_model.specs.declared.Side.TheVariants.{Prover, Verifier};
 ghost use Rattle.zk_port.specs.Logs.{put_before};
 ghost use Rattle.frame_link.specs.Lines.{snapshot};
-ghost use Rattle.session_prover.specs.Notes.{IsGranted, IsOutcome, AnswersGrantPlace, AnswersVerdict, SendsHonestly, SendsOnceClaimed, SendsEach, IsRelated, IsLogged, CountsOutcome};
-ghost use Rattle.session_prover.specs.Completing.{Completes};
+ghost use Rattle.session_prover.specs.Notes.{HasClaimedUnits, IsOutcome, AnswersGrantPlace, AnswersVerdict, SendsHonestly, SendsOnceClaimed, SendsEach, IsRelated, IsLogged, CountsOutcome};
+ghost use Rattle.session_prover.specs.Completing.{ProverCompletes};
 
 use crate::claimant::Claimant;
 use crate::note::ProverNote;
@@ -32,7 +32,7 @@ pub fn prove_session<R: Threads + Sync, C: Claimant, L: Link>(
     requires open { (L.state link).is_open ≡ true }
     requires unasked { C.answer claimant.old ≡ None }
     requires total { C.total claimant.old ≤ job.now.file.params.total }
-    ensures granted { IsGranted job.now
+    ensures granted { HasClaimedUnits job.now
         (record { asked = C.asked claimant.new; answer = C.answer claimant.new }) result.log result.granted }
     ensures moved { MatchOption (C.answer claimant.new) (claimant.new ≡ claimant.old)
         (λ answer. IsSomeAnd (C.asked claimant.new)
@@ -59,7 +59,7 @@ pub fn prove_session<R: Threads + Sync, C: Claimant, L: Link>(
         ≤ (L.state link).receives + length (sent_by Verifier result.log) + 1 }
     ensures faults { CountsOutcome result.outcome (L.state link).faults (L.state result.link).faults }
     ensures ended { (L.state result.link).is_open ≡ false }
-    ensures complete { Completes job.now
+    ensures complete { ProverCompletes job.now
         (record { asked = C.asked claimant.new; answer = C.answer claimant.new }) result.log
         (snapshot Prover [] (L.state link)) (snapshot Prover result.log (L.state result.link))
         result.outcome }

@@ -13,8 +13,8 @@ ghost use Rattle.session_prover.specs.Notes.{HasEnded, granted_of};
 ghost use Rattle.proof_frames.specs.Frames.{frame_value, IsShort};
 ghost use Rattle.session_core.specs.Cores.{ProverAnswers, ProverRefuses, StaysWithin, awaits_grant, prover_expects};
 ghost use Rattle.session_core.specs.Jobs.{Suits};
-ghost use Rattle.session_prover.specs.Outcomes.{session_outcome};
-ghost use Rattle.session_prover.specs.Stages.{AnswersClaimed, Claimed, IsProving, Stops, claims_of, outcome_told, proved, proves, proving_expects, frames_left, IsNoGrant, IsRejection, IsSound, IsToAnswer};
+ghost use Rattle.session_prover.specs.Outcomes.{prover_fault_outcome};
+ghost use Rattle.session_prover.specs.Stages.{AnswersClaimed, Claimed, IsProving, Stops, claimant_tells, outcome_told, proved, proves, proving_expects, prover_frames_left, IsNoGrant, IsRejection, IsSoundJob, IsToAnswer};
 
 use crate::claimant::Claimant;
 use crate::note::ProverOutcome;
@@ -60,10 +60,10 @@ fn claim_units<C: Claimant>(claimant: &mut C, grant: Grant) -> Result<Span, Clai
     requires once { C.answer claimant.old ≡ None }
     requires at_least_one { 1 ≤ grant.count }
     ensures claimed { IfOk result (λ span. (span ≡ span_of grant)
-        × Claimed (claims_of C.asked C.answer C.total C.moves) grant (Ok (span_of grant))
+        × Claimed (claimant_tells C.asked C.answer C.total C.moves) grant (Ok (span_of grant))
         claimant.old claimant.new) }
     ensures refused { IfErr result (λ fault.
-        Claimed (claims_of C.asked C.answer C.total C.moves) grant (Err fault) claimant.old claimant.new) }
+        Claimed (claimant_tells C.asked C.answer C.total C.moves) grant (Err fault) claimant.old claimant.new) }
     ensures within { IfOk result (λ _. grant.start + grant.count ≤ C.total claimant.old) }
 {
     claimant.claim(grant.start, grant.count)
@@ -83,7 +83,7 @@ fn answer<R: Threads + Sync>(
         (frame_value frame) (map frame_value answer.items) core.new.stage) }
     ensures refused { IfErr result (λ refusal. (fault : ProverFault)
         × ProverRefuses core.old.job core.old.stage (frame_value frame) fault
-        × (refusal.fault ≡ session_outcome fault) × (refusal.code ≡ None)) }
+        × (refusal.fault ≡ prover_fault_outcome fault) × (refusal.code ≡ None)) }
     ensures job { core.new.job ≡ core.old.job }
 {
     match core.step_with(rt, alloc, frame, SESSION_WORKERS) {
@@ -110,11 +110,11 @@ fn answer_grant<R: Threads + Sync, C: Claimant>(
     requires expected { Allows expect.Grant (frame_value frame) }
     requires once { C.answer claimant.old ≡ None }
     requires total { C.total claimant.old ≤ job.now.file.params.total }
-    ensures answered { IfOk result (λ answer. AnswersClaimed (claims_of C.asked C.answer C.total C.moves)
+    ensures answered { IfOk result (λ answer. AnswersClaimed (claimant_tells C.asked C.answer C.total C.moves)
         (proved core.old granted.old false claimant.old) (frame_value frame) (map frame_value answer.items)
         (proved core.new granted.new false claimant.new)) }
     ensures refused { IfErr result (λ refusal. (refusal.code ≡ None)
-        × Stops (claims_of C.asked C.answer C.total C.moves)
+        × Stops (claimant_tells C.asked C.answer C.total C.moves)
         (proved core.old granted.old false claimant.old) (frame_value frame) refusal.fault
         (proved core.new granted.new false claimant.new)) }
 {
@@ -159,11 +159,11 @@ fn answers(core: &ProverCore<'_>) -> bool
 
 impl<'a, C: Claimant> Party<C> for Proving<'a> {
     ghost use Rattle.std.specs.Prelude.{[], ◌∷◌, None};
-    ghost use Rattle.session_prover.specs.Stages.{IsProving, claims_of, frames_left, greeting_frame, proved, proves, proving_expects};
+    ghost use Rattle.session_prover.specs.Stages.{IsProving, claimant_tells, prover_frames_left, greeting_frame, proved, proves, proving_expects};
 
     type Fault = ProverOutcome;
 
-    ghost holds = { λ s asked. IsProving (claims_of C.asked C.answer C.total C.moves) s.job.now
+    ghost holds = { λ s asked. IsProving (claimant_tells C.asked C.answer C.total C.moves) s.job.now
         (proved s.core s.granted s.accepted asked) };
 
     ghost expects = { λ s. proving_expects s.accepted s.core };
@@ -173,15 +173,15 @@ impl<'a, C: Claimant> Party<C> for Proving<'a> {
     ghost greeting = { λ s. greeting_frame s.job.now ∷ [] };
 
     ghost answers = { λ s asked frame answer t then.
-        (proves (claims_of C.asked C.answer C.total C.moves)).answers
+        (proves (claimant_tells C.asked C.answer C.total C.moves)).answers
         (proved s.core s.granted s.accepted asked) frame answer (proved t.core t.granted t.accepted then) };
 
     ghost refuses = { λ s asked frame fault code t then.
-        (proves (claims_of C.asked C.answer C.total C.moves)).refuses
+        (proves (claimant_tells C.asked C.answer C.total C.moves)).refuses
         (proved s.core s.granted s.accepted asked) frame fault code
         (proved t.core t.granted t.accepted then) };
 
-    ghost left = { λ s. frames_left s.accepted s.core.stage };
+    ghost left = { λ s. prover_frames_left s.accepted s.core.stage };
 
     fn expects(&self) -> Option<Expect> {
         if self.accepted {
@@ -264,7 +264,7 @@ pub(crate) fn prove<R: Threads + Sync, C: Claimant, L: Link>(
     claimant: &mut C,
     line: &mut Line<L>,
 ) -> Course
-    requires sound { IsSound job.now }
+    requires sound { IsSoundJob job.now }
     requires fresh { IsFresh line.old }
     requires side { line.old.side ≡ Prover }
     requires unasked { C.answer claimant.old ≡ None }

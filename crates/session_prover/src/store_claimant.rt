@@ -7,7 +7,7 @@ use std::alloc::Global;
 use zk_model::Span;
 use zk_port::Disk;
 
-/// Claims units from a store of its own, once.
+/// StoreClaims units from a store of its own, once.
 #[derive(Drop)]
 pub struct StoreClaimant<B: Disk> {
     alloc: Global,
@@ -17,7 +17,7 @@ pub struct StoreClaimant<B: Disk> {
 }
 
 impl<B: Disk> StoreClaimant<B> {
-    /// Claims from this store; the list of its claims grows by the allocator of its start.
+    /// StoreClaims from this store; the list of its claims grows by the allocator of its start.
     pub fn new(alloc: Global, store: ClaimStore<B>) -> Self
         ensures store { result.store ≡ store }
         ensures unasked { result.asked ≡ None }
@@ -40,7 +40,7 @@ impl<B: Disk> StoreClaimant<B> {
 }
 
 impl<B: Disk> Claimant for StoreClaimant<B> {
-    ghost use Rattle.session_prover.specs.Stores.{Claims};
+    ghost use Rattle.session_prover.specs.Stores.{StoreClaims};
 
     ghost asked = { λ c. c.asked };
 
@@ -48,7 +48,7 @@ impl<B: Disk> Claimant for StoreClaimant<B> {
 
     ghost total = { λ c. c.store.total };
 
-    ghost moves = { λ c start count answer d. Claims B.state c.store start count answer d.store };
+    ghost moves = { λ c start count answer d. StoreClaims B.state c.store start count answer d.store };
 
     fn claim(&mut self, start: u64, count: u32) -> Result<Span, ClaimFault> {
         let answer = self.store.claim(self.alloc, start, count);

@@ -13,7 +13,7 @@ use Rattle.zk_model.specs.declared.Verdict.{Verdict}
 use Rattle.session_core.specs.Ends.{IsFixed, whole_grant}
 use Rattle.session_core.specs.Jobs.{ProverJob, VerifierJob, granted_from}
 use Rattle.session_core.specs.Judgements.{session_transcript, verdict_in}
-use Rattle.session_rehearsal.specs.Holding.{AreRoundsHeld, IsHonestWith, IsSessionOf, ends_of}
+use Rattle.session_rehearsal.specs.Holding.{AreRoundsHeld, IsHonestWith, IsRehearsedSession, ends_of}
 use Rattle.session_core.specs.declared.judgement.Judgement.{Judgement}
 
 -- the prover is honest with these wires
@@ -55,7 +55,7 @@ pub session_is : (prover : ProverJob) (job : VerifierJob) (start : ℕ) (seen : 
     → both ≡ all_sums prover.statement.program job.section_length (challenge_coin job.task.file start) pairs
     (drop prover.statement.program.givens seen)
     → macs ≡ macs_of (opened_pairs prover.statement.program pairs)
-    → IsSessionOf (ends_of prover job) (granted_from job start) (verdict_in judgement) log
+    → IsRehearsedSession (ends_of prover job) (granted_from job start) (verdict_in judgement) log
 session_is prover job start seen rounds d both macs judgement pairs log stated same served held fixed summed opened = record {
   t = session_transcript job (wanted_hello job.task.file.id job.task.statement) start rounds d both macs (verdict_in judgement);
   granted = refl;

@@ -25,7 +25,7 @@ use Rattle.circuit_laws.proofs.Made.{bits_are_made}
 use Rattle.circuit_laws.proofs.Satisfied.{outputs_are}
 use Rattle.session_rehearsal.proofs.Spelled.{before_verdict, ends_with_verdict}
 use Rattle.session_core.specs.Ends.{whole_grant}
-use Rattle.session_rehearsal.specs.Holding.{BothEnds, IsSessionOf, ends_from}
+use Rattle.session_rehearsal.specs.Holding.{BothEnds, IsRehearsedSession, ends_from}
 use Rattle.session_rehearsal.specs.Rehearsals.{rehearsed_params, AreRehearsedFiles, EndsWithVerdict, rehearsed_prover, rehearsed_verifier}
 
 -- ---- the witness
@@ -96,7 +96,7 @@ pub accepted_session : (circuit : Circuit) (public inputs outputs bits : List Bo
     → BitsSolve → HonestSessionIsAccepted → IsWellFormed circuit → length public ≤ circuit.inputs
     → AreWireBits circuit (public ++ inputs) bits → outputs ≡ drop (output_wire circuit 0) bits
     → AreRehearsedFiles kind units seed
-    → IsSessionOf (rehearsed_ends circuit public bits kind units seed) (whole_grant units section) verdict log
+    → IsRehearsedSession (rehearsed_ends circuit public bits kind units seed) (whole_grant units section) verdict log
     → IsAcceptedSession circuit public inputs outputs kind section units seed verdict log
 accepted_session circuit public inputs outputs bits kind section units seed verdict log solve law formed few met claimed files held =
     let last : List Bool = drop (output_wire circuit 0) bits in

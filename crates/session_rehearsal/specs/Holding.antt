@@ -74,7 +74,7 @@ pub record IsHonestWith (ends : BothEnds) (inputs wires : List ℕ) (t : Transcr
 
 -- The log of a session under this grant: the verifier serves it and gives this verdict, and the prover is honest, whatever
 -- values of wires its given values are of.
-pub record IsSessionOf (ends : BothEnds) (grant : Grant) (verdict : Verdict) (log : List (Side × ℕ)) : Type 0 where
+pub record IsRehearsedSession (ends : BothEnds) (grant : Grant) (verdict : Verdict) (log : List (Side × ℕ)) : Type 0 where
   pub t : Transcript
   pub granted : t.commitment.setup.grant ≡ grant
   pub served : IsServed (record { file = ends.verifier; statement = ends.statement }) t verdict log

@@ -15,7 +15,7 @@ ghost use Rattle.session_core.specs.Fixing.{HoldsKeys, IsFixedUnder};
 ghost use Rattle.session_core.specs.Judgements.{AreLeftSides};
 ghost use Rattle.session_rehearsal.specs.Exchanges.{IsExchangeNoted, IsShortExchange, AreShort, round_log};
 ghost use Rattle.session_rehearsal.specs.Answers.{IsAnswered, IsCounted, IsOpened};
-ghost use Rattle.session_rehearsal.specs.Holding.{AreBitsOf, AreRoundsHeld, HoldsRounds, IsSessionOf, ends_of, ends_with};
+ghost use Rattle.session_rehearsal.specs.Holding.{AreBitsOf, AreRoundsHeld, HoldsRounds, IsRehearsedSession, ends_of, ends_with};
 
 use dealer_files::{ProverFile, VerifierFile};
 use mersenne_field::{Fe, Pair};
@@ -86,7 +86,7 @@ pub(crate) fn run_session<R: Threads + Sync>(
     requires granted { IsGrant prover_file.params statement.now.program
         (whole_grant prover_file.params.total section) }
     ensures session { IfOk result (λ e. (log : List (Side × ℕ)) → IsExchangeNoted e log
-        → IsSessionOf (ends_with statement.now inputs.now prover_file verifier_file.now)
+        → IsRehearsedSession (ends_with statement.now inputs.now prover_file verifier_file.now)
         (whole_grant prover_file.params.total section) e.verdict log) }
     ensures short { IfOk result IsShortExchange }
 {
@@ -328,7 +328,7 @@ fn judge(verifier: &VerifierJob<'_>, answered: OpenedSession) -> SessionValues
     ensures session { (prover : jobs.ProverJob) (log : List (Side × ℕ))
         → prover.statement ≡ verifier.now.task.statement → AreDealt prover.file verifier.now.task.file
         → IsAnswered prover verifier.now answered → IsExchangeNoted result log
-        → IsSessionOf (ends_of prover verifier.now) (granted_from verifier.now 0) result.verdict log }
+        → IsRehearsedSession (ends_of prover verifier.now) (granted_from verifier.now 0) result.verdict log }
     ensures short { IsShortExchange result }
 {
     let program = verifier.statement().program();

@@ -11,7 +11,7 @@ ghost use Rattle.zk_model.specs.declared.Side.{Side};
 ghost use Rattle.wire_auth.specs.Values.{given_made};
 ghost use Rattle.session_core.specs.Ends.{whole_grant};
 ghost use Rattle.session_rehearsal.specs.Exchanges.{IsExchangeNoted, IsShortExchange};
-ghost use Rattle.session_rehearsal.specs.Holding.{AreBitsOf, IsSessionOf, ends_with};
+ghost use Rattle.session_rehearsal.specs.Holding.{AreBitsOf, IsRehearsedSession, ends_with};
 ghost use Rattle.session_rehearsal.specs.Rehearsals.{IsClaimed, IsRehearsalOf, RehearseCause, AreRehearsedFiles, rehearsed_params};
 ghost use Rattle.zk_model.specs.declared.limits.TheConstants.{MAX_SECTION_LENGTH, MAX_UNITS};
 
@@ -71,7 +71,7 @@ fn exchange_dealt<R: Threads + Sync>(
     requires units_some { 1 ≤ units }
     requires units_most { units ≤ MAX_UNITS }
     ensures held { IfOk result (λ e. (log : List (Side × ℕ)) → IsExchangeNoted e log
-        → IsSessionOf (ends_with statement.now inputs.now
+        → IsRehearsedSession (ends_with statement.now inputs.now
         (dealt_prover (rehearsed_params kind units) seed.now)
         (dealt_verifier (rehearsed_params kind units) seed.now))
         (whole_grant units section) e.verdict log) }

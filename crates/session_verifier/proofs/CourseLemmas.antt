@@ -24,10 +24,10 @@ use Rattle.session_core.specs.declared.judgement.Judgement.{Judgement}
 use Rattle.session_core.proofs.Enough.{parts_within}
 use Rattle.session_core.proofs.Served.{AreRanged, served_is}
 use Rattle.frame_link.specs.Lines.{LinkSnapshot, IsWithinFrame, counted_times}
-use Rattle.session_verifier.specs.Outcomes.{Refuses, lease_outcome, lease_code, judgement_outcome, refusal_of, lease_fault, hello_code, line_outcome, session_outcome}
-use Rattle.session_verifier.specs.Stages.{Greeting, IsGreeted, IsBehind, IsStopped, IsLogAt, IsRefusedGrant, IsGrantUnsent, IsJudgedLog, first_turn, second_turn, ComesThere, IsTurnedAway, RefusesAfter, IsTurnsLog, last_turn, Ending, HasEnding, answer_at, outcome_at, lacks_hello, turns_away, lacks_units, lacks_grant, loses_grant, stops_behind, judges, AreUnits, StopsBehind}
+use Rattle.session_verifier.specs.Outcomes.{HasRefusal, lease_outcome, lease_code, judgement_outcome, refusal_of, lease_fault, hello_code, verifier_line_outcome, verifier_fault_outcome}
+use Rattle.session_verifier.specs.Stages.{Greeting, IsGreeted, IsBehind, IsStopped, IsVerifierLogAt, IsRefusedGrant, IsGrantUnsent, IsJudgedLog, first_turn, second_turn, ComesThere, IsTurnedAway, RefusesAfter, IsTurnsLog, last_turn, Ending, HasEnding, answer_at, outcome_at, lacks_hello, turns_away, lacks_units, lacks_grant, loses_grant, stops_behind, judges, AreUnits, VerifierStopsBehind}
 use Rattle.session_pool.specs.Notes.{granted_by}
-use Rattle.session_verifier.specs.Notes.{IsJudgedSession, JudgesRightly, IsShown, HasJudged, RefusesNoLease, EndsBecause, LeasesBehindHello, CountsFaults, HasTaken, Completes, CompletesForEach, IsUngranted, SendsRightly, AcceptsExactly, KeepsKeys, AnswersLease}
+use Rattle.session_verifier.specs.Notes.{IsJudgedSession, JudgesRightly, IsShown, HasJudged, RefusesNoLease, EndsBecause, LeasesBehindHello, CountsFaults, HasTaken, VerifierCompletes, CompletesForEach, IsUngranted, SendsRightly, AcceptsExactly, KeepsKeys, AnswersLease}
 use Rattle.session_verifier.specs.declared.note.VerifierOutcome.{VerifierOutcome}
 use Rattle.session_verifier.specs.declared.note.VerifierOutcome.TheVariants.{Accepted, RejectedSum, RejectedOpening, PeerEnded, BadFrame, Exhausted, Device, Broken, Link, NoMemory}
 use Rattle.session_driver.proofs.Going.{came_more, answers_heard}
@@ -88,13 +88,13 @@ lease_none (lease.Exhausted at count total) = refl
 lease_none lease.Device = refl
 lease_none (lease.Broken at) = refl
 
-line_none : (fault : LineFault) → judged_in (line_outcome fault) ≡ None
+line_none : (fault : LineFault) → judged_in (verifier_line_outcome fault) ≡ None
 line_none (line.PeerEnded at) = refl
 line_none (line.BadFrame at) = refl
 line_none line.Link = refl
 line_none line.NoMemory = refl
 
-session_none : (fault : VerifierFault) → judged_in (session_outcome fault) ≡ None
+session_none : (fault : VerifierFault) → judged_in (verifier_fault_outcome fault) ≡ None
 session_none (session.BadHello differs) = refl
 session_none session.NoMemory = refl
 
@@ -140,12 +140,12 @@ judged_session job span granted judgement log known leased logged =
 
 pub judges_rightly : (job : VerifierJob) (ending : Ending) (first now : LinkSnapshot) → IsKnown job → HasEnding job ending first now
     → JudgesRightly job (granted_by (answer_at ending)) (outcome_at ending) now.log
-judges_rightly job (lacks_hello fault) first now known has judgement is = clash (line_outcome fault) judgement is (line_none fault)
-judges_rightly job (turns_away fault) first now known has judgement is = clash (session_outcome fault) judgement is (session_none fault)
+judges_rightly job (lacks_hello fault) first now known has judgement is = clash (verifier_line_outcome fault) judgement is (line_none fault)
+judges_rightly job (turns_away fault) first now known has judgement is = clash (verifier_fault_outcome fault) judgement is (session_none fault)
 judges_rightly job (lacks_units fault) first now known has judgement is = clash (lease_outcome fault) judgement is (lease_none fault)
 judges_rightly job (lacks_grant span) first now known has judgement is = clash NoMemory judgement is refl
-judges_rightly job (loses_grant span fault) first now known has judgement is = clash (line_outcome fault) judgement is (line_none fault)
-judges_rightly job (stops_behind span fault) first now known has judgement is = clash (line_outcome fault) judgement is (line_none fault)
+judges_rightly job (loses_grant span fault) first now known has judgement is = clash (verifier_line_outcome fault) judgement is (line_none fault)
+judges_rightly job (stops_behind span fault) first now known has judgement is = clash (verifier_line_outcome fault) judgement is (line_none fault)
 judges_rightly job (judges span found) first now known has judgement is =
     judged_session job span (Some span) judgement now.log known refl
     (subst (λ j. IsJudgedLog job span.start j now.log) (one_judgement found judgement is) has.1.log)
@@ -156,27 +156,27 @@ judges_rightly job (judges span found) first now known has judgement is =
 pub hello_bytes : (job : VerifierJob) (log : List (Side × ℕ)) → (comes : ComesThere job awaits_hello log) → log ≡ bytes_from Prover comes.rest
 hello_bytes job log comes = comes.logged ∙ ap (λ l. l ++ bytes_from Prover comes.rest) comes.waited
 
-not_link : (outcome : VerifierOutcome) → Refuses outcome → outcome ≡ Link → ⊥
+not_link : (outcome : VerifierOutcome) → HasRefusal outcome → outcome ≡ Link → ⊥
 not_link outcome refuses is = none_is_some (ap refusal_of (sym is) ∙ refuses.1)
 
 counts_well : (outcome : VerifierOutcome) (first now : LinkSnapshot) → now.faults ≡ first.faults → (outcome ≡ Link → ⊥) → CountsFaults outcome first now
 counts_well outcome first now same other = record { later = omega (arith, same); failed = λ is. absurd (other is); unfailed = inl same }
 
-counts_line : (fault : LineFault) (first now : LinkSnapshot) → CountsCalls fault first now → CountsFaults (line_outcome fault) first now
+counts_line : (fault : LineFault) (first now : LinkSnapshot) → CountsCalls fault first now → CountsFaults (verifier_line_outcome fault) first now
 counts_line line.Link first now calls = record { later = calls.later; failed = λ _. calls.failed refl; unfailed = inr (inl refl) }
 counts_line (line.PeerEnded at) first now calls = counts_well (PeerEnded at) first now (calls.unfailed tt) (λ is. cc)
 counts_line (line.BadFrame at) first now calls = counts_well (BadFrame at) first now (calls.unfailed tt) (λ is. cc)
 counts_line line.NoMemory first now calls = counts_well NoMemory first now (calls.unfailed tt) (λ is. cc)
 
 counts_stop : (job : VerifierJob) (stage : VerifierStage) (fault : LineFault) (first now : LinkSnapshot) → IsStopped job stage fault first now
-    → CountsFaults (line_outcome fault) first now
+    → CountsFaults (verifier_line_outcome fault) first now
 counts_stop job stage fault first now stopped = elim stopped.why [
   | inl short ↦ counts_line fault first now short.calls
-  | inr (inl lacks) ↦ subst (λ f. CountsFaults (line_outcome f) first now) (sym lacks.0) (counts_well NoMemory first now lacks.3.faults (λ is. cc))
+  | inr (inl lacks) ↦ subst (λ f. CountsFaults (verifier_line_outcome f) first now) (sym lacks.0) (counts_well NoMemory first now lacks.3.faults (λ is. cc))
   | inr (inr unsent) ↦ counts_line fault first now unsent.2.calls
 ]
 
-counts_refused : (outcome : VerifierOutcome) (said : Hello) (code : ℕ) (first now : LinkSnapshot) → Refuses outcome → RefusesAfter said code first now
+counts_refused : (outcome : VerifierOutcome) (said : Hello) (code : ℕ) (first now : LinkSnapshot) → HasRefusal outcome → RefusesAfter said code first now
     → CountsFaults outcome first now
 counts_refused outcome said code first now refuses (inl well) = counts_well outcome first now well.faults (not_link outcome refuses)
 counts_refused outcome said code first now refuses (inr lost) = record {
@@ -196,7 +196,7 @@ lease_refusal (lease.Exhausted at count total) = refl
 lease_refusal lease.Device = refl
 lease_refusal (lease.Broken at) = refl
 
-pub hello_refusal : (fault : VerifierFault) → refusal_of (session_outcome fault) ≡ Some (hello_code fault)
+pub hello_refusal : (fault : VerifierFault) → refusal_of (verifier_fault_outcome fault) ≡ Some (hello_code fault)
 hello_refusal (session.BadHello differs) = refl
 hello_refusal session.NoMemory = refl
 
@@ -204,7 +204,7 @@ pub counts_faults : (job : VerifierJob) (ending : Ending) (first now : LinkSnaps
     → CountsFaults (outcome_at ending) first now
 counts_faults job (lacks_hello fault) first now has = counts_stop job awaits_hello fault first now has
 counts_faults job (turns_away fault) first now has =
-    counts_refused (session_outcome fault) has.said (hello_code fault) first now (hello_code fault, hello_refusal fault) has.refused
+    counts_refused (verifier_fault_outcome fault) has.said (hello_code fault) first now (hello_code fault, hello_refusal fault) has.refused
 counts_faults job (lacks_units fault) first now has =
     counts_refused (lease_outcome fault) has.greeting.hello (lease_code fault) first now (lease_code fault, lease_refusal fault) has.refused
 counts_faults job (lacks_grant span) first now has = counts_refused NoMemory has.1.greeting.hello 4 first now (4, refl) has.1.refused
@@ -224,14 +224,14 @@ leased_is_not_refused span fault is = cc
 
 -- by the fault at which the session stopped
 stop_cause : (job : VerifierJob) (answer : Option (Result Span LeaseFault)) (stage : VerifierStage) (fault : LineFault) (first now : LinkSnapshot)
-    → RefusesNoLease answer → IsStopped job stage fault first now → EndsBecause job answer (line_outcome fault) first now
+    → RefusesNoLease answer → IsStopped job stage fault first now → EndsBecause job answer (verifier_line_outcome fault) first now
 stop_cause job answer stage (line.PeerEnded at) first now leased stopped = (stage, stopped)
 stop_cause job answer stage (line.BadFrame at) first now leased stopped = (stage, stopped)
 stop_cause job answer stage line.Link first now leased stopped = (leased, inl (stage, stopped))
 stop_cause job answer stage line.NoMemory first now leased stopped = (leased, inl (stage, stopped))
 
 away_cause : (job : VerifierJob) (fault : VerifierFault) (first now : LinkSnapshot) → IsTurnedAway job fault first now
-    → EndsBecause job None (session_outcome fault) first now
+    → EndsBecause job None (verifier_fault_outcome fault) first now
 away_cause job (session.BadHello differs) first now away =
     let same : away.cause.0 ≡ away.said = ap (hello_in away.said) (sym away.cause.2) in
     (away.said, away.is, subst (λ h. DiffersFirst job.task.file.id job.task.statement h differs) same away.cause.3, away.refused)
@@ -251,7 +251,7 @@ judged_cause job answer (judged.RejectedSum section left right) first now is = i
 judged_cause job answer (judged.RejectedOpening output left right) first now is = is
 
 unsent_cause : (job : VerifierJob) (span : Span) (fault : LineFault) (first now : LinkSnapshot) → IsGrantUnsent job span.start fault first now
-    → EndsBecause job (Some (Ok span)) (line_outcome fault) first now
+    → EndsBecause job (Some (Ok span)) (verifier_line_outcome fault) first now
 unsent_cause job span line.Link first now unsent = (leased_is_not_refused span, inr (span, refl, unsent))
 unsent_cause job span line.NoMemory first now unsent = (leased_is_not_refused span, inr (inr (span, refl, unsent)))
 unsent_cause job span other first now unsent = absurd unsent.lost.fault_is
@@ -301,7 +301,7 @@ begins_turns job start turns said log at =
       ),
     )
 
-begins_at : (job : VerifierJob) (start : ℕ) (stage : VerifierStage) (log : List (Side × ℕ)) → IsBehind start stage → IsLogAt job stage log
+begins_at : (job : VerifierJob) (start : ℕ) (stage : VerifierStage) (log : List (Side × ℕ)) → IsBehind start stage → IsVerifierLogAt job stage log
     → BeginsGreeted job log
 begins_at job start (awaits_asks begun asked) log starts at = begins_turns job begun _ _ log at.1
 begins_at job start (awaits_corrections begun) log starts at = begins_turns job begun _ _ log at.turned
@@ -386,7 +386,7 @@ refused_by job answer other first now because = tt
 -- a session that is accepted with an honest prover of whichever statement is so with one of the statement that is noted
 pub completes_noted : (jobs : VerifierJobs) (taken : Option ℕ) (answer : Option (Result Span LeaseFault)) (outcome : VerifierOutcome)
     (first now : LinkSnapshot)
-    → HasTaken jobs taken now.log → CompletesForEach jobs answer outcome first now → Completes (noted_job jobs taken) answer outcome first now
+    → HasTaken jobs taken now.log → CompletesForEach jobs answer outcome first now → VerifierCompletes (noted_job jobs taken) answer outcome first now
 completes_noted jobs None answer outcome first now has completes prover peer = completes prover (record {
   number = 0;
   hello = long_hello jobs.first.task.file.id jobs.first.task.statement;
@@ -463,7 +463,7 @@ sends_lacking job span first now ranges law known within is = elim is.refused [
 ]
 
 pub sends_behind : (job : VerifierJob) (span : Span) (fault : LineFault) (first now : LinkSnapshot) → RepliesAreInRange → ServedSessionExists → IsKnown job
-    → StopsBehind job span.start fault first now → ServesWith job.task (granted_from job span.start) now.log
+    → VerifierStopsBehind job span.start fault first now → ServesWith job.task (granted_from job span.start) now.log
 sends_behind job span fault first now ranges law known stops =
     let some = cut_at_stop job span.start fault first now ranges law known stops in
     let cut = some.cut in
@@ -476,9 +476,9 @@ begins_within job span are = omega (arith, are.units, are.within)
 pub sends_rightly : (job : VerifierJob) (ending : Ending) (first now : LinkSnapshot) → RepliesAreInRange → ServedSessionExists → IsKnown job
     → HasEnding job ending first now → SendsRightly job (granted_by (answer_at ending)) (outcome_at ending) now.log
 sends_rightly job (lacks_hello fault) first now ranges law known has =
-    ungranted_alone (line_outcome fault) has.rest now.log (within_of job awaits_hello now.log has.comes expect.Hello refl) (hello_bytes job now.log has.comes)
+    ungranted_alone (verifier_line_outcome fault) has.rest now.log (within_of job awaits_hello now.log has.comes expect.Hello refl) (hello_bytes job now.log has.comes)
 sends_rightly job (turns_away fault) first now ranges law known has =
-    ungranted_refused (session_outcome fault) (hello_code fault) has.said first now has.is (hello_refusal fault) has.refused
+    ungranted_refused (verifier_fault_outcome fault) (hello_code fault) has.said first now has.is (hello_refusal fault) has.refused
 sends_rightly job (lacks_units fault) first now ranges law known has =
     ungranted_refused (lease_outcome fault) (lease_code fault) has.greeting.hello first now (greeting_is_hello job known has.greeting) (lease_refusal fault)
     has.refused
@@ -545,9 +545,9 @@ accepted_judgement other code = absurd (omega (arith, code))
 pub accepts_exactly : (job : VerifierJob) (ending : Ending) (first now : LinkSnapshot) → RepliesAreInRange → ServedSessionExists → CutIsNotAccepted → VerdictIsSaid
     → IsKnown job → HasEnding job ending first now → AcceptsExactly job (outcome_at ending) now.log
 accepts_exactly job (lacks_hello fault) first now ranges law cut said known has accepted =
-    absurd (ungranted_is_cut job (line_outcome fault) now.log cut known (sends_rightly job (lacks_hello fault) first now ranges law known has) accepted)
+    absurd (ungranted_is_cut job (verifier_line_outcome fault) now.log cut known (sends_rightly job (lacks_hello fault) first now ranges law known has) accepted)
 accepts_exactly job (turns_away fault) first now ranges law cut said known has accepted =
-    absurd (ungranted_is_cut job (session_outcome fault) now.log cut known (sends_rightly job (turns_away fault) first now ranges law known has) accepted)
+    absurd (ungranted_is_cut job (verifier_fault_outcome fault) now.log cut known (sends_rightly job (turns_away fault) first now ranges law known has) accepted)
 accepts_exactly job (lacks_units fault) first now ranges law cut said known has accepted =
     absurd (ungranted_is_cut job (lease_outcome fault) now.log cut known (sends_rightly job (lacks_units fault) first now ranges law known has) accepted)
 accepts_exactly job (lacks_grant span) first now ranges law cut said known has accepted = absurd (ungranted_is_cut job NoMemory now.log cut known

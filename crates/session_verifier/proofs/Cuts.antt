@@ -17,7 +17,7 @@ use Rattle.session_core.specs.Jobs.{VerifierJob, IsVerifierJob, units_of_job, gr
 use Rattle.session_core.specs.Rounds.{round_turns, AreServedRounds}
 use Rattle.session_core.specs.Cores.{has_judged, VerifierStage, awaits_asks, awaits_corrections, awaits_sums, awaits_openings, AreAsksSoFar, verifier_expects}
 use Rattle.frame_link.specs.Lines.{LinkSnapshot}
-use Rattle.session_verifier.specs.Stages.{Greeting, IsBehind, IsLogAt, first_turn, second_turn, ComesThere, StopsBehind, IsTurnsLog, IsFixedLog, last_turn}
+use Rattle.session_verifier.specs.Stages.{Greeting, IsBehind, IsVerifierLogAt, first_turn, second_turn, ComesThere, VerifierStopsBehind, IsTurnsLog, IsFixedLog, last_turn}
 use Rattle.std.proofs.Math.Nat.{mul-le-mul_right}
 use Rattle.std.proofs.lemmas.List.{get_or-replicate, length-replicate, length-map, take_at, get_or_at}
 use Rattle.session_laws.specs.Serving.{ServedSessionExists, HasServedSession}
@@ -155,7 +155,7 @@ rounds_counted job start rounds served =
 
 pub record IsCutAt (job : VerifierJob) (stage : VerifierStage) (rest : List ℕ) (log : List (Side × ℕ)) : Type 0 where
   pub before : List (Side × ℕ)
-  pub waited : IsLogAt job stage before
+  pub waited : IsVerifierLogAt job stage before
   pub few : (other : Expect) → verifier_expects job stage ≡ Some other → length rest ≤ longest other
   pub logged : log ≡ before ++ bytes_from Prover rest
 
@@ -167,7 +167,7 @@ cut_of_stop job stage log comes = record {
   logged = comes.logged;
 }
 
-pub cut_of_log : (job : VerifierJob) (stage : VerifierStage) (log : List (Side × ℕ)) → IsLogAt job stage log → IsCutAt job stage [] log
+pub cut_of_log : (job : VerifierJob) (stage : VerifierStage) (log : List (Side × ℕ)) → IsVerifierLogAt job stage log → IsCutAt job stage [] log
 cut_of_log job stage log at = record { before = log; waited = at; few = λ other is. omega arith; logged = sym (append-nil log) }
 
 -- what was said then
@@ -292,7 +292,7 @@ cut_behind job start other rest log ranges law known starts waits stopped = absu
 
 -- where a session stopped after the grant
 pub cut_at_stop : (job : VerifierJob) (start : ℕ) (fault : LineFault) (first now : LinkSnapshot) → RepliesAreInRange → ServedSessionExists → IsKnown job
-    → StopsBehind job start fault first now → IsSomeCut job start now.log
+    → VerifierStopsBehind job start fault first now → IsSomeCut job start now.log
 cut_at_stop job start fault first now ranges law known stops =
     let comes = stops.stopped.comes in
     cut_behind job start stops.stage comes.rest now.log ranges law known stops.behind (λ none. none_is_some (sym none ∙ comes.expected))

@@ -19,9 +19,9 @@ use Rattle.session_core.specs.Jobs.{VerifierJob, units_of_job, granted_from, Ver
 use Rattle.session_core.specs.Judgements.{verdict_in}
 use Rattle.session_core.specs.Cores.{VerifierStage, VerifierAnswers, awaits_hello, owes_grant, behind_grant, awaits_asks, awaits_corrections, awaits_sums, awaits_openings, has_judged, AreAsksSoFar, verifier_expects}
 use Rattle.session_core.specs.declared.judgement.Judgement.{Judgement}
-use Rattle.session_verifier.specs.Outcomes.{Refuses, lease_code, refusal_of, hello_code, line_outcome, session_outcome, judgement_outcome, lease_outcome}
-use Rattle.session_verifier.specs.Stages.{IsHeldJob, IsLogAt, IsAnswer, IsBehind, IsStopped, ComesThere, RefusesAfter, last_turn, Ending, HasEnding, answer_at, outcome_at, lacks_hello, turns_away, lacks_units, lacks_grant, loses_grant, stops_behind, judges}
-use Rattle.session_verifier.specs.Notes.{BeginsRefusal, TellsRightly, IsAllSent, IsTold, BeginsByHello, HasHonestPeer, TakesStatement, CompletesForEach, HasHonestCaller}
+use Rattle.session_verifier.specs.Outcomes.{HasRefusal, lease_code, refusal_of, hello_code, verifier_line_outcome, verifier_fault_outcome, judgement_outcome, lease_outcome}
+use Rattle.session_verifier.specs.Stages.{IsHeldJob, IsVerifierLogAt, IsAnswer, IsBehind, IsStopped, ComesThere, RefusesAfter, last_turn, Ending, HasEnding, answer_at, outcome_at, lacks_hello, turns_away, lacks_units, lacks_grant, loses_grant, stops_behind, judges}
+use Rattle.session_verifier.specs.Notes.{BeginsRefusal, TellsRightly, IsAllSent, IsTold, BeginsByHello, HasHonestProver, TakesStatement, CompletesForEach, HasHonestCaller}
 use Rattle.session_verifier.proofs.StageLemmas.{logs_on, grant_behind, either_kind, behind_direct, behind_extended, turns_append, one_expected, few_of}
 use Rattle.session_verifier.proofs.CourseLemmas.{judged_session, hello_bytes, lease_refusal, sends_rightly, accepted_judgement, hello_refusal, sends_behind, serves_judged, begins_within}
 use Rattle.session_verifier.specs.declared.note.VerifierOutcome.{VerifierOutcome}
@@ -93,7 +93,7 @@ serves_part job start whole log answer count cut =
 
 -- a part of the verdict
 serves_judged_part : (job : VerifierJob) (start : ℕ) (judgement : Judgement) (log : List (Side × ℕ)) (answer : List ℕ) (count : ℕ) → IsKnown job
-    → IsLogAt job (has_judged start judgement) (log ++ bytes_from Verifier answer)
+    → IsVerifierLogAt job (has_judged start judgement) (log ++ bytes_from Verifier answer)
     → ServesWith job.task (granted_from job start) (log ++ bytes_from Verifier (take count answer))
 serves_judged_part job start judgement log answer count known at =
     let span : Span = record { start = start; end = start } in
@@ -112,7 +112,7 @@ serves_judged_part job start judgement log answer count known at =
 
 answered_part : (job : VerifierJob) (start : ℕ) (stage next : VerifierStage) (frame : Frame) (frames : List Frame) (log : List (Side × ℕ)) (answer : List ℕ) (count : ℕ)
     → RepliesAreInRange → ServedSessionExists → IsKnown job → IsBehind start stage → VerifierAnswers job stage frame frames next → 1 ≤ length frames
-    → IsLogAt job next (log ++ bytes_from Verifier answer)
+    → IsVerifierLogAt job next (log ++ bytes_from Verifier answer)
     → ServesWith job.task (granted_from job start) (log ++ bytes_from Verifier (take count answer))
 answered_part job start awaits_hello next frame frames log answer count ranges law known starts answers some at = absurd starts
 answered_part job start (awaits_asks begun asked) next frame frames log answer count ranges law known starts answers some at = elim answers.2 [
@@ -120,37 +120,37 @@ answered_part job start (awaits_asks begun asked) next frame frames log answer c
   | inr all ↦ subst (λ b. ServesWith job.task (granted_from job b) (log ++ bytes_from Verifier (take count answer))) starts
       (serves_part job begun (1 + rounds_of job.task.file.params.kind) log answer count
       (cut_corrections job begun [] (log ++ bytes_from Verifier answer) law known
-      (cut_of_log job (awaits_corrections begun) (log ++ bytes_from Verifier answer) (subst (λ p. IsLogAt job p (log ++ bytes_from Verifier answer)) all.2 at))))
+      (cut_of_log job (awaits_corrections begun) (log ++ bytes_from Verifier answer) (subst (λ p. IsVerifierLogAt job p (log ++ bytes_from Verifier answer)) all.2 at))))
 ]
 answered_part job start (awaits_corrections begun) next frame frames log answer count ranges law known starts answers some at =
     subst (λ b. ServesWith job.task (granted_from job b) (log ++ bytes_from Verifier (take count answer))) starts
     (serves_part job begun (2 + rounds_of job.task.file.params.kind) log answer count
     (cut_sums job begun answers.0 [] (log ++ bytes_from Verifier answer) law known
-    (cut_of_log job (awaits_sums begun answers.0) (log ++ bytes_from Verifier answer) (subst (λ p. IsLogAt job p (log ++ bytes_from Verifier answer)) answers.3 at))))
+    (cut_of_log job (awaits_sums begun answers.0) (log ++ bytes_from Verifier answer) (subst (λ p. IsVerifierLogAt job p (log ++ bytes_from Verifier answer)) answers.3 at))))
 answered_part job start (awaits_sums begun d) next frame frames log answer count ranges law known starts answers some at =
     absurd (omega (arith, some, ap length answers.2))
 answered_part job start (awaits_openings begun d both) next frame frames log answer count ranges law known starts answers some at =
     subst (λ b. ServesWith job.task (granted_from job b) (log ++ bytes_from Verifier (take count answer))) starts
-    (serves_judged_part job begun answers.1 log answer count known (subst (λ p. IsLogAt job p (log ++ bytes_from Verifier answer)) answers.5 at))
+    (serves_judged_part job begun answers.1 log answer count known (subst (λ p. IsVerifierLogAt job p (log ++ bytes_from Verifier answer)) answers.5 at))
 answered_part job start other next frame frames log answer count ranges law known starts answers some at = absurd answers
 
 -- of the grant
 granted_part : (job : VerifierJob) (start : ℕ) (log : List (Side × ℕ)) (count : ℕ) → RepliesAreInRange → ServedSessionExists → IsKnown job
-    → start + units_of_job job ≤ job.task.file.params.total → IsLogAt job owes_grant log
+    → start + units_of_job job ≤ job.task.file.params.total → IsVerifierLogAt job owes_grant log
     → ServesWith job.task (granted_from job start) (log ++ bytes_from Verifier (take count (grant_frame (granted_from job start))))
 granted_part job start log count ranges law known within at =
     let grant : List ℕ = grant_frame (granted_from job start) in
-    let behind : IsLogAt job (behind_grant job start) (log ++ bytes_from Verifier (grant_frame (granted_from job start))) =
+    let behind : IsVerifierLogAt job (behind_grant job start) (log ++ bytes_from Verifier (grant_frame (granted_from job start))) =
     grant_behind job start log within at in
     elim (either_kind job.task.file.params.kind) [
       | inl direct ↦
           let all = log ++ bytes_from Verifier (grant_frame (granted_from job start)) in
           serves_part job start (1 + rounds_of job.task.file.params.kind) log (grant_frame (granted_from job start)) count
-          (cut_corrections job start [] all law known (cut_of_log job (awaits_corrections start) all (subst (λ p. IsLogAt job p all) (behind_direct job start direct) behind)))
+          (cut_corrections job start [] all law known (cut_of_log job (awaits_corrections start) all (subst (λ p. IsVerifierLogAt job p all) (behind_direct job start direct) behind)))
       | inr extended ↦
           let all = log ++ bytes_from Verifier (grant_frame (granted_from job start)) in
           serves_part job start 1 log (grant_frame (granted_from job start)) count
-          (cut_asks job start [] [] all ranges law known (cut_of_log job (awaits_asks start []) all (subst (λ p. IsLogAt job p all) (behind_extended job start extended) behind)))
+          (cut_asks job start [] [] all ranges law known (cut_of_log job (awaits_asks start []) all (subst (λ p. IsVerifierLogAt job p all) (behind_extended job start extended) behind)))
     ]
 
 -- after the log where a session stopped
@@ -164,7 +164,7 @@ due_part job start stage log comes answer count ranges law known starts is =
     (λ i. (comes.before ++ bytes_from Prover (sym is.came i)) ++ bytes_from Verifier (sym is.answer_is i))
     ∙ ap (λ l. l ++ bytes_from Verifier answer) (sym comes.logged) in
     answered_part job start stage is.next is.frame is.frames log answer count ranges law known starts is.answers is.at_least_one
-    (subst (IsLogAt job is.next) whole next)
+    (subst (IsVerifierLogAt job is.next) whole next)
 
 -- ---- what is told
 
@@ -190,12 +190,12 @@ told_part job granted outcome log bytes first now never rightly lost = record {
 }
 
 -- where a refusal is due, it may not have been sent
-refuses_never : (outcome : VerifierOutcome) → Refuses outcome → IsAllSent outcome → ⊥
+refuses_never : (outcome : VerifierOutcome) → HasRefusal outcome → IsAllSent outcome → ⊥
 refuses_never Link refuses all = all
 refuses_never other refuses all = none_is_some (sym all ∙ refuses.1)
 
 -- nor may what a fault kept back
-fault_never : (fault : LineFault) → IsSendFault fault → IsAllSent (line_outcome fault) → ⊥
+fault_never : (fault : LineFault) → IsSendFault fault → IsAllSent (verifier_line_outcome fault) → ⊥
 fault_never line.Link is all = all
 fault_never line.NoMemory is all = none_is_some (sym all)
 fault_never other is all = is
@@ -219,13 +219,13 @@ told_refusal job granted outcome code said first now is of rightly (inr lost) =
 
 -- a session that stopped where it waited
 told_stopped : (job : VerifierJob) (granted : Option Span) (stage : VerifierStage) (fault : LineFault) (first now : LinkSnapshot) (stopped : IsStopped job stage fault first now)
-    → TellsRightly job granted (line_outcome fault) now.log
+    → TellsRightly job granted (verifier_line_outcome fault) now.log
     → ((answer : List ℕ) (count : ℕ) → IsAnswer job stage stopped.place stopped.rest answer
-    → TellsRightly job granted (line_outcome fault) (now.log ++ bytes_from Verifier (take count answer))) → IsTold job granted (line_outcome fault) first now
+    → TellsRightly job granted (verifier_line_outcome fault) (now.log ++ bytes_from Verifier (take count answer))) → IsTold job granted (verifier_line_outcome fault) first now
 told_stopped job granted stage fault first now stopped rightly due = elim stopped.why [
-  | inl short ↦ told_whole job granted (line_outcome fault) first now short.told short.refused_sends rightly
-  | inr (inl lacks) ↦ told_whole job granted (line_outcome fault) first now lacks.3.told lacks.3.refused_sends rightly
-  | inr (inr unsent) ↦ told_part job granted (line_outcome fault) now.log unsent.0 first now
+  | inl short ↦ told_whole job granted (verifier_line_outcome fault) first now short.told short.refused_sends rightly
+  | inr (inl lacks) ↦ told_whole job granted (verifier_line_outcome fault) first now lacks.3.told lacks.3.refused_sends rightly
+  | inr (inr unsent) ↦ told_part job granted (verifier_line_outcome fault) now.log unsent.0 first now
       (fault_never fault unsent.2.fault_is) (λ count. due unsent.0 count unsent.1) unsent.2.lost
 ]
 
@@ -239,7 +239,7 @@ is_told job (lacks_hello fault) first now ranges law known has =
     told_stopped job None awaits_hello fault first now has (inl (sends_rightly job (lacks_hello fault) first now ranges law known has))
     (λ answer count is. absurd (no_answer job _ _ answer is))
 is_told job (turns_away fault) first now ranges law known has =
-    told_refusal job None (session_outcome fault) (hello_code fault) has.said first now has.is (hello_refusal fault) (λ log begins. inr begins) has.refused
+    told_refusal job None (verifier_fault_outcome fault) (hello_code fault) has.said first now has.is (hello_refusal fault) (λ log begins. inr begins) has.refused
 is_told job (lacks_units fault) first now ranges law known has =
     told_refusal job None (lease_outcome fault) (lease_code fault) has.greeting.hello first now (greeting_is_hello job known has.greeting)
     (lease_refusal fault) (λ log begins. inr begins) has.refused
@@ -248,7 +248,7 @@ is_told job (lacks_grant span) first now ranges law known has =
     (λ log begins. inr (refl, begins)) has.1.refused
 is_told job (loses_grant span fault) first now ranges law known has =
     let hello = bytes_from Prover (hello_frame has.1.greeting.hello) in
-    told_part job (Some span) (line_outcome fault) hello (grant_frame (granted_from job span.start)) first now (fault_never fault has.1.lost.fault_is)
+    told_part job (Some span) (verifier_line_outcome fault) hello (grant_frame (granted_from job span.start)) first now (fault_never fault has.1.lost.fault_is)
     (λ count. inl (granted_part job span.start hello count ranges law known (begins_within job span has.0)
     (record { greeting = has.1.greeting; bytes = refl }))) has.1.lost.lost
 is_told job (stops_behind span fault) first now ranges law known has =
@@ -283,8 +283,8 @@ IsComplete outcome = (outcome ≡ Accepted) ⊎ (outcome ≡ NoMemory)
 
 -- with such bytes a session stops only for want of memory
 short_completes : (place : Expect) (rest : List ℕ) (log : List (Side × ℕ)) (fault : LineFault) (first now : LinkSnapshot)
-    → IsBegun place (line_outcome fault) rest → ¬ Rose first.faults now.faults → StopsShort Verifier log place rest fault first now
-    → IsComplete (line_outcome fault)
+    → IsBegun place (verifier_line_outcome fault) rest → ¬ Rose first.faults now.faults → StopsShort Verifier log place rest fault first now
+    → IsComplete (verifier_line_outcome fault)
 short_completes place rest log (line.PeerEnded at) first now is rose short =
     let cut = short.part.cut tt in
     absurd (omega (arith, cut.short, is.whole at refl, is.sized))
@@ -295,16 +295,16 @@ short_completes place rest log line.Link first now is rose short = absurd (rose 
 short_completes place rest log line.NoMemory first now is rose short = inr refl
 
 send_completes : (fault : LineFault) (first now : LinkSnapshot) → IsSendFault fault → CountsCalls fault first now → ¬ Rose first.faults now.faults
-    → IsComplete (line_outcome fault)
+    → IsComplete (verifier_line_outcome fault)
 send_completes line.Link first now is calls rose = absurd (rose (calls.failed refl))
 send_completes line.NoMemory first now is calls rose = inr refl
 send_completes other first now is calls rose = absurd is
 
 stop_completes : (job : VerifierJob) (stage : VerifierStage) (fault : LineFault) (first now : LinkSnapshot) (stopped : IsStopped job stage fault first now)
-    → IsBegun stopped.place (line_outcome fault) stopped.rest → ¬ Rose first.faults now.faults → IsComplete (line_outcome fault)
+    → IsBegun stopped.place (verifier_line_outcome fault) stopped.rest → ¬ Rose first.faults now.faults → IsComplete (verifier_line_outcome fault)
 stop_completes job stage fault first now stopped begun rose = elim stopped.why [
   | inl short ↦ short_completes stopped.place stopped.rest now.log fault first now begun rose short
-  | inr (inl lacks) ↦ inr (ap line_outcome lacks.0)
+  | inr (inl lacks) ↦ inr (ap verifier_line_outcome lacks.0)
   | inr (inr unsent) ↦ send_completes fault first now unsent.2.fault_is unsent.2.calls rose
 ]
 
@@ -328,7 +328,7 @@ sent_hello job prover rest sent log both alone bytes =
 
 hello_begun : (job : VerifierJob) (prover : ProverTask) (outcome : VerifierOutcome) (rest : List ℕ) (log : List (Side × ℕ))
     → IsStatement job.task.statement
-    → HasHonestPeer job prover outcome log → log ≡ bytes_from Prover rest → IsBegun expect.Hello outcome rest
+    → HasHonestProver job prover outcome log → log ≡ bytes_from Prover rest → IsBegun expect.Hello outcome rest
 hello_begun job prover outcome rest log stated peer alone =
     let wanted = wanted_hello job.task.file.id job.task.statement in
     let is : IsHello wanted = wanted_is_hello job.task.file.id job.task.statement peer.counterparts.verifier_file.id stated in
@@ -350,12 +350,12 @@ hello_begun job prover outcome rest log stated peer alone =
 
 -- a session that stops at the hello does so before the whole one of an honest peer of any job
 first_completes : (job mine : VerifierJob) (fault : LineFault) (prover : ProverTask) (first now : LinkSnapshot) → IsStatement mine.task.statement
-    → IsStopped job awaits_hello fault first now → HasHonestPeer mine prover (line_outcome fault) now.log → ¬ Rose first.faults now.faults
-    → IsComplete (line_outcome fault)
+    → IsStopped job awaits_hello fault first now → HasHonestProver mine prover (verifier_line_outcome fault) now.log → ¬ Rose first.faults now.faults
+    → IsComplete (verifier_line_outcome fault)
 first_completes job mine fault prover first now stated stopped peer rose =
-    let begun = hello_begun mine prover (line_outcome fault) stopped.rest now.log stated peer (hello_bytes job now.log stopped.comes) in
+    let begun = hello_begun mine prover (verifier_line_outcome fault) stopped.rest now.log stated peer (hello_bytes job now.log stopped.comes) in
     stop_completes job awaits_hello fault first now stopped
-    (subst (λ p. IsBegun p (line_outcome fault) stopped.rest) (sym (one_expected expect.Hello stopped.place (Some expect.Hello) refl stopped.expected)) begun) rose
+    (subst (λ p. IsBegun p (verifier_line_outcome fault) stopped.rest) (sym (one_expected expect.Hello stopped.place (Some expect.Hello) refl stopped.expected)) begun) rose
 
 -- ---- which statement the hello is for
 
@@ -477,7 +477,7 @@ record IsSaid (job : VerifierJob) (start : ℕ) (outcome : VerifierOutcome) (who
   ended : (at : ℕ) → outcome ≡ PeerEnded at → (other : Transcript) × IsTurn job start other × (rest ≡ said_in other whole)
 
 honest_said : (job : VerifierJob) (start whole : ℕ) (rest : List ℕ) (prover : ProverTask) (outcome : VerifierOutcome) (log : List (Side × ℕ)) → HonestTurn → HonestTurnEnds
-    → IsKnown job → HasHonestPeer job prover outcome log → IsCutOf job start whole rest log → IsSaid job start outcome whole rest
+    → IsKnown job → HasHonestProver job prover outcome log → IsCutOf job start whole rest log → IsSaid job start outcome whole rest
 honest_said job start whole rest prover outcome log turn ends known peer cut =
     let served = turns_served job start whole rest log known cut in
     let t = cut.session.t in
@@ -635,36 +635,36 @@ openings_begun job start outcome both rest pairs said few =
 -- a session that stopped in a turn that was cut, where what came begins the frame that is expected
 stopped_completes : (job : VerifierJob) (start : ℕ) (stage : VerifierStage) (place : Expect) (whole : ℕ) (bytes : List ℕ) (prover : ProverTask) (fault : LineFault)
     (first now : LinkSnapshot) → HonestTurn → HonestTurnEnds → IsKnown job → (stopped : IsStopped job stage fault first now)
-    → HasHonestPeer job prover (line_outcome fault) now.log → ¬ Rose first.faults now.faults → verifier_expects job stage ≡ Some place
+    → HasHonestProver job prover (verifier_line_outcome fault) now.log → ¬ Rose first.faults now.faults → verifier_expects job stage ≡ Some place
     → IsCutOf job start whole bytes now.log
-    → (IsSaid job start (line_outcome fault) whole bytes → length stopped.rest ≤ longest place → IsBegun place (line_outcome fault) stopped.rest)
-    → IsComplete (line_outcome fault)
+    → (IsSaid job start (verifier_line_outcome fault) whole bytes → length stopped.rest ≤ longest place → IsBegun place (verifier_line_outcome fault) stopped.rest)
+    → IsComplete (verifier_line_outcome fault)
 stopped_completes job start stage place whole bytes prover fault first now turn ends known stopped peer rose expects cut begun =
     stop_completes job stage fault first now stopped
-    (subst (λ p. IsBegun p (line_outcome fault) stopped.rest) (one_expected stopped.place place (verifier_expects job stage) stopped.expected expects)
-    (begun (honest_said job start whole bytes prover (line_outcome fault) now.log turn ends known peer cut) (few_of job stage now.log stopped.comes place expects)))
+    (subst (λ p. IsBegun p (verifier_line_outcome fault) stopped.rest) (one_expected stopped.place place (verifier_expects job stage) stopped.expected expects)
+    (begun (honest_said job start whole bytes prover (verifier_line_outcome fault) now.log turn ends known peer cut) (few_of job stage now.log stopped.comes place expects)))
     rose
 
 behind_completes : (job : VerifierJob) (start : ℕ) (stage : VerifierStage) (prover : ProverTask) (fault : LineFault) (first now : LinkSnapshot)
     → RepliesAreInRange → ServedSessionExists → HonestTurn → HonestTurnEnds → IsKnown job → IsBehind start stage
-    → IsStopped job stage fault first now → HasHonestPeer job prover (line_outcome fault) now.log → ¬ Rose first.faults now.faults
-    → IsComplete (line_outcome fault)
+    → IsStopped job stage fault first now → HasHonestProver job prover (verifier_line_outcome fault) now.log → ¬ Rose first.faults now.faults
+    → IsComplete (verifier_line_outcome fault)
 behind_completes job start (awaits_asks begun asked) prover fault first now ranges law turn ends known starts stopped peer rose =
     stopped_completes job begun (awaits_asks begun asked) _ 1 (flat_map ask_frame asked ++ stopped.rest) prover fault first now turn ends known stopped peer rose refl
     (cut_asks job begun asked stopped.rest now.log ranges law known (cut_of_stop job (awaits_asks begun asked) now.log stopped.comes))
-    (asks_begun job begun asked (line_outcome fault) stopped.rest (units_of_job job - length asked) stopped.waited.0)
+    (asks_begun job begun asked (verifier_line_outcome fault) stopped.rest (units_of_job job - length asked) stopped.waited.0)
 behind_completes job start (awaits_corrections begun) prover fault first now ranges law turn ends known starts stopped peer rose =
     stopped_completes job begun (awaits_corrections begun) _ _ stopped.rest prover fault first now turn ends known stopped peer rose refl
     (cut_corrections job begun stopped.rest now.log law known (cut_of_stop job (awaits_corrections begun) now.log stopped.comes))
-    (corrections_begun job begun (line_outcome fault) stopped.rest)
+    (corrections_begun job begun (verifier_line_outcome fault) stopped.rest)
 behind_completes job start (awaits_sums begun d) prover fault first now ranges law turn ends known starts stopped peer rose =
     stopped_completes job begun (awaits_sums begun d) _ _ stopped.rest prover fault first now turn ends known stopped peer rose refl
     (cut_sums job begun d stopped.rest now.log law known (cut_of_stop job (awaits_sums begun d) now.log stopped.comes))
-    (sums_begun job begun (line_outcome fault) stopped.rest)
+    (sums_begun job begun (verifier_line_outcome fault) stopped.rest)
 behind_completes job start (awaits_openings begun d both) prover fault first now ranges law turn ends known starts stopped peer rose =
     stopped_completes job begun (awaits_openings begun d both) _ _ (sums_frame both ++ stopped.rest) prover fault first now turn ends known stopped peer rose refl
     (cut_openings job begun d both stopped.rest now.log law known (cut_of_stop job (awaits_openings begun d both) now.log stopped.comes))
-    (openings_begun job begun (line_outcome fault) both stopped.rest stopped.waited.1)
+    (openings_begun job begun (verifier_line_outcome fault) both stopped.rest stopped.waited.1)
 behind_completes job start (has_judged begun judgement) prover fault first now ranges law turn ends known starts stopped peer rose =
     absurd (none_is_some stopped.expected)
 behind_completes job start other prover fault first now ranges law turn ends known starts stopped peer rose = absurd starts
@@ -682,13 +682,13 @@ pub record AreLaws : Type 0 where
 -- where a statement was taken it is the caller's
 same_number : (jobs : VerifierJobs) (taken : Option ℕ) (answer : Option (Result Span LeaseFault)) (span : Span) (outcome : VerifierOutcome) (prover : ProverTask)
     (log : List (Side × ℕ)) → AllBelow (length (all_jobs jobs)) (λ n. IsStatement (job_at jobs n).task.statement) → TakesStatement jobs taken answer outcome log
-    → answer ≡ Some (Ok span) → (caller : HasHonestCaller jobs prover outcome log) → HasHonestPeer (noted_job jobs taken) prover outcome log
+    → answer ≡ Some (Ok span) → (caller : HasHonestCaller jobs prover outcome log) → HasHonestProver (noted_job jobs taken) prover outcome log
 same_number jobs None answer span outcome prover log stated takes leased caller = absurd (none_is_some (sym (takes.none refl) ∙ leased))
 same_number jobs (Some m) answer span outcome prover log stated takes leased caller =
     let has = takes.has in
     let same : m ≡ caller.number = one_taken jobs m caller.number has.0 caller.hello has.1 caller.first
     (hello_fits (job_at jobs caller.number) prover has.0 log (stated caller.number caller.first.within) caller.peer.counterparts caller.peer.honest has.2) in
-    subst (λ n. HasHonestPeer (job_at jobs n) prover outcome log) (sym same) caller.peer
+    subst (λ n. HasHonestProver (job_at jobs n) prover outcome log) (sym same) caller.peer
 
 pub completes : (jobs : VerifierJobs) (taken : Option ℕ) (ending : Ending) (first now : LinkSnapshot) → AreLaws
     → AllBelow (length (all_jobs jobs)) (λ n. IsStatement (job_at jobs n).task.statement)
@@ -707,7 +707,7 @@ completes jobs taken (loses_grant span fault) first now laws stated known takes 
     send_completes fault first now has.1.lost.fault_is has.1.lost.calls rose
 completes jobs taken (stops_behind span fault) first now laws stated known takes has prover caller leased rose =
     behind_completes (noted_job jobs taken) span.start has.1.stage prover fault first now laws.ranges laws.exists laws.turn laws.ends known has.1.behind
-    has.1.stopped (same_number jobs taken (Some (Ok span)) span (line_outcome fault) prover now.log stated takes refl caller) rose
+    has.1.stopped (same_number jobs taken (Some (Ok span)) span (verifier_line_outcome fault) prover now.log stated takes refl caller) rose
 completes jobs taken (judges span found) first now laws stated known takes has prover caller leased rose =
     let peer = same_number jobs taken (Some (Ok span)) span (judgement_outcome found) prover now.log stated takes refl caller in
     let job = noted_job jobs taken in

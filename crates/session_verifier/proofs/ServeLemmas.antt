@@ -26,9 +26,9 @@ use Rattle.session_driver.specs.declared.drive.Outcome.{Outcome}
 use Rattle.session_driver.specs.declared.drive.Outcome.TheVariants.{Done, Refused, Cut}
 use Rattle.session_driver.proofs.Going.{whole_more, goes_keeps}
 use Rattle.session_laws.specs.Rounds.{RepliesAreInRange}
-use Rattle.session_verifier.specs.Outcomes.{lease_code, line_outcome, hello_code, judgement_outcome, lease_outcome, session_outcome}
-use Rattle.session_verifier.specs.Serving.{Grants, Leases, Served, Met, Greeted, GrantsUnits, AnswersBehind, Answers, Refuses, RefusesHello, RefusesBehind, RefusesLease, LacksGrantFrame, IsToldAs, lack_code_at, served, serves}
-use Rattle.session_verifier.specs.Stages.{IsBehind, Greets, IsLogAt, IsStopped, IsRefusedGrant, IsCourse, RefusesAfter, Ending, HasEnding, answer_at, outcome_at, lacks_hello, turns_away, lacks_units, lacks_grant, loses_grant, stops_behind, judges, AreUnits}
+use Rattle.session_verifier.specs.Outcomes.{lease_code, verifier_line_outcome, hello_code, judgement_outcome, lease_outcome, verifier_fault_outcome}
+use Rattle.session_verifier.specs.Serving.{Grants, Leases, Served, Met, Greeted, GrantsUnits, VerifierAnswersBehind, ServingAnswers, ServingRefuses, RefusesHello, VerifierRefusesBehind, RefusesLease, LacksGrantFrame, IsToldAs, lack_code_at, served, serves}
+use Rattle.session_verifier.specs.Stages.{IsBehind, Greets, IsVerifierLogAt, IsStopped, IsRefusedGrant, IsCourse, RefusesAfter, Ending, HasEnding, answer_at, outcome_at, lacks_hello, turns_away, lacks_units, lacks_grant, loses_grant, stops_behind, judges, AreUnits}
 use Rattle.session_verifier.specs.Notes.{HasTaken, BeginsByHello, TakesStatement}
 use Rattle.session_verifier.specs.declared.note.VerifierOutcome.{VerifierOutcome}
 use Rattle.session_verifier.specs.declared.note.VerifierOutcome.TheVariants.{BadHello, NoMemory}
@@ -54,7 +54,7 @@ IsLeaseAt grants old job granted stage grantor =
 
 -- what is logged then, and what was leased
 pub record IsAt {R : Type 0} (grants : Grants R) (old : R) (job : VerifierJob) (stage : VerifierStage) (granted : Option Span) (grantor : R) (before : List Turn) : Type 0 where
-  pub log : IsLogAt job stage (whole_log Verifier [] before)
+  pub log : IsVerifierLogAt job stage (whole_log Verifier [] before)
   pub lease : IsLeaseAt grants old job granted stage grantor
 
 -- so it is with a verifier's end, whose job is that of the statement that it took
@@ -92,7 +92,7 @@ leased_as grants old job granted span stage grantor is (inr some) =
 
 -- a hello for the statement is logged
 hello_logged : (job : VerifierJob) (log : List (Side × ℕ)) (frame : Frame) → log ≡ [] → Greets job frame
-    → IsLogAt job owes_grant (log ++ bytes_from Prover (frame_spelling frame))
+    → IsVerifierLogAt job owes_grant (log ++ bytes_from Prover (frame_spelling frame))
 hello_logged job log frame none greets =
     record { greeting = greets.greeting; bytes = λ i. none i ++ bytes_from Prover (frame_spelling (greets.is i)) }
 
@@ -113,9 +113,9 @@ module _ {R : Type 0} (jobs : VerifierJobs) (grants : Grants R) (old : R) (law :
       let told : said Verifier turn.answer ≡ bytes_from Verifier (grant_frame (granted_from job start)) =
       ap (said Verifier) grants_units.answer_is ∙ one_answer (grant (granted_from job start)) in
       let same = (unleased grants old s.core.job s.granted s.core.stage s.grantor waits at.lease).1 in
-      let none : whole_log Verifier [] before ≡ [] = subst (λ p. IsLogAt s.core.job p (whole_log Verifier [] before)) waits at.log in
+      let none : whole_log Verifier [] before ≡ [] = subst (λ p. IsVerifierLogAt s.core.job p (whole_log Verifier [] before)) waits at.log in
       subst (λ p. IsAt grants old job p t.granted t.grantor (before ++ turn ∷ [])) (sym grants_units.stage) (record {
-        log = subst (IsLogAt job (behind_grant job start)) (ap (λ l. front ++ l) (sym told) ∙ whole_more Verifier [] before turn)
+        log = subst (IsVerifierLogAt job (behind_grant job start)) (ap (λ l. front ++ l) (sym told) ∙ whole_more Verifier [] before turn)
             (grant_behind job start front (omega (arith, grants_units.are.units, grants_units.are.within))
             (hello_logged job (whole_log Verifier [] before) turn.frame none grants_units.greeted.greets));
         lease = inr (
@@ -131,7 +131,7 @@ module _ {R : Type 0} (jobs : VerifierJobs) (grants : Grants R) (old : R) (law :
 
   answer_on : (s t : Served R) (before : List Turn) (turn : Turn) (place : Expect)
       → verifier_expects s.core.job s.core.stage ≡ Some place → Allows place turn.frame
-      → IsAt grants old s.core.job s.core.stage s.granted s.grantor before → AnswersBehind s turn.frame turn.answer t
+      → IsAt grants old s.core.job s.core.stage s.granted s.grantor before → VerifierAnswersBehind s turn.frame turn.answer t
       → IsAt grants old t.core.job t.core.stage t.granted t.grantor (before ++ turn ∷ [])
   answer_on s t before turn place expected allowed at by =
       let job = s.core.job in
@@ -143,17 +143,17 @@ module _ {R : Type 0} (jobs : VerifierJobs) (grants : Grants R) (old : R) (law :
       } in
       subst (λ (q : VerifierJob × R). IsAt grants old q.0 t.core.stage t.granted q.1 (before ++ turn ∷ []))
       (λ i. (sym by.job i, sym by.grantor i)) (record {
-        log = subst (IsLogAt job t.core.stage) (whole_more Verifier [] before turn)
+        log = subst (IsVerifierLogAt job t.core.stage) (whole_more Verifier [] before turn)
             (logs_on job s.core.stage t.core.stage (whole_log Verifier [] before) place turn.frame turn.answer law by.held expected allowed at.log by.answers);
         lease = inr (by.span, by.granted ∙ by.behind, stays);
       })
 
   turn_on : (s : Served R) (before : List Turn) (turn : Turn) (t : Served R) → IsStanding jobs grants old s before
       → IsTurn (serves grants) s turn t → IsStanding jobs grants old t (before ++ turn ∷ [])
-  turn_on s before turn t stands is = elim (subst (λ j. Answers j grants s turn.frame turn.answer t) stands.jobs_are is.answered.1) [
+  turn_on s before turn t stands is = elim (subst (λ j. ServingAnswers j grants s turn.frame turn.answer t) stands.jobs_are is.answered.1) [
     | inl by ↦
         let met = by.greeted.met in
-        let none : whole_log Verifier [] before ≡ [] = subst (λ p. IsLogAt s.core.job p (whole_log Verifier [] before)) met.waits stands.at.log in
+        let none : whole_log Verifier [] before ≡ [] = subst (λ p. IsVerifierLogAt s.core.job p (whole_log Verifier [] before)) met.waits stands.at.log in
         record {
           jobs_are = is.answered.0 ∙ stands.jobs_are;
           job = met.job;
@@ -289,7 +289,7 @@ judgement_no_hello judged.Accepted differs is = cc
 judgement_no_hello (judged.RejectedSum section left right) differs is = cc
 judgement_no_hello (judged.RejectedOpening output left right) differs is = cc
 
-line_no_hello : (broke : LineFault) (differs : HelloDiffers) → ¬ (line_outcome broke ≡ BadHello differs)
+line_no_hello : (broke : LineFault) (differs : HelloDiffers) → ¬ (verifier_line_outcome broke ≡ BadHello differs)
 line_no_hello (fault.PeerEnded at) differs is = cc
 line_no_hello (fault.BadFrame place) differs is = cc
 line_no_hello fault.Link differs is = cc
@@ -297,7 +297,7 @@ line_no_hello fault.NoMemory differs is = cc
 
 -- after the grant no hello is refused, and a frame only for want of memory
 only_memory : (job : VerifierJob) (stage : VerifierStage) (frame : Frame) (fault : VerifierFault) → VerifierRefuses job stage frame fault
-    → ¬ (stage ≡ awaits_hello) → session_outcome fault ≡ NoMemory
+    → ¬ (stage ≡ awaits_hello) → verifier_fault_outcome fault ≡ NoMemory
 only_memory job stage frame (session.BadHello other) refuses behind = absurd (behind refuses.1)
 only_memory job stage frame session.NoMemory refuses behind = refl
 
@@ -312,7 +312,7 @@ differs_not_fits job said (hello_differs.Statement want got) by fits =
 -- so it was taken for none
 for_none : (jobs : VerifierJobs) (job : VerifierJob) (taken : Option ℕ) (said : Hello) (frame : Frame) (fault : VerifierFault) (differs : HelloDiffers)
     → TakesHello jobs said taken → job ≡ noted_job jobs taken → frame ≡ hello said → VerifierRefuses job awaits_hello frame fault
-    → session_outcome fault ≡ BadHello differs → (taken ≡ None) × IsForNone jobs said
+    → verifier_fault_outcome fault ≡ BadHello differs → (taken ≡ None) × IsForNone jobs said
 for_none jobs job taken said frame session.NoMemory differs takes job_is is refuses named = absurd (memory_no_hello differs named)
 for_none jobs job None said frame (session.BadHello other) differs takes job_is is refuses named = (refl, takes)
 for_none jobs job (Some n) said frame (session.BadHello other) differs takes job_is is refuses named =
@@ -371,7 +371,7 @@ module _ {R : Type 0} (jobs : VerifierJobs) (grants : Grants R) (old : R) (once 
     leased : IsLeased grants old mid.core.job span mid.core.stage mid.grantor
     leased = leased_as grants old mid.core.job mid.granted span mid.core.stage mid.grantor behind stood.at.lease
 
-    stopped_so : (broke : LineFault) → IsStopped mid.core.job mid.core.stage broke first now → IsCourseOf mid.core.job (line_outcome broke)
+    stopped_so : (broke : LineFault) → IsStopped mid.core.job mid.core.stage broke first now → IsCourseOf mid.core.job (verifier_line_outcome broke)
     stopped_so broke stop = record {
       ending = stops_behind span broke;
       answer_is = ap grants.answer grantor ∙ leased.leased.told;
@@ -399,18 +399,18 @@ module _ {R : Type 0} (jobs : VerifierJobs) (grants : Grants R) (old : R) (once 
         has = (
           leased.are,
           record {
-            log = subst (λ (q : VerifierStage × List (Side × ℕ)). IsLogAt mid.core.job q.0 q.1) (λ i. (judged.2.1 i, sym is.well.logged i)) stood.at.log;
+            log = subst (λ (q : VerifierStage × List (Side × ℕ)). IsVerifierLogAt mid.core.job q.0 q.1) (λ i. (judged.2.1 i, sym is.well.logged i)) stood.at.log;
             well = subst (λ l. GoesWell Verifier l first now) (sym is.well.logged) is.well;
           },
         );
       })
 
-  missed : (broke : LineFault) → Misses (serves grants) Verifier passed mid new broke first now → IsNoted (line_outcome broke)
+  missed : (broke : LineFault) → Misses (serves grants) Verifier passed mid new broke first now → IsNoted (verifier_line_outcome broke)
   missed broke misses =
       let grantor = ap (λ (s : Served R). s.grantor) misses.same in
       let granted = ap (λ (s : Served R). s.granted) misses.same in
       let stop = stops_without (serves grants) mid.core.job mid.core.stage passed mid new broke first now refl stood.at.log misses in
-      still_noted (line_outcome broke) (bytes_from Prover misses.rest) (ap (λ (s : Served R). s.taken) misses.same) grantor misses.short.logged
+      still_noted (verifier_line_outcome broke) (bytes_from Prover misses.rest) (ap (λ (s : Served R). s.taken) misses.same) grantor misses.short.logged
       (line_no_hello broke) (elim stood.at.lease [
         | inl none ↦ record {
           ending = lacks_hello broke;
@@ -435,7 +435,7 @@ module _ {R : Type 0} (jobs : VerifierJobs) (grants : Grants R) (old : R) (once 
         (stops_lacking mid.core.job span.start mid.core.stage place frame passed first now (leased span behind grantor granted).behind
         expected allowed stood.at.log well))
 
-    refused_behind : (told : VerifierOutcome) (code : Option ℕ) → RefusesBehind mid frame told code new → TriesCode Verifier heard code first now
+    refused_behind : (told : VerifierOutcome) (code : Option ℕ) → VerifierRefusesBehind mid frame told code new → TriesCode Verifier heard code first now
         → IsNoted told
     refused_behind told code by tried =
         let behind = (leased by.span by.behind by.grantor by.granted).behind in
@@ -443,15 +443,15 @@ module _ {R : Type 0} (jobs : VerifierJobs) (grants : Grants R) (old : R) (once 
         ∙ only_memory mid.core.job mid.core.stage frame by.fault by.refuses (λ waits. subst (IsBehind by.span.start) waits behind)))
         (lacks_behind by.span by.behind by.grantor by.granted by.taken (subst (λ c. TriesCode Verifier heard c first now) by.code_is tried))
 
-    unanswered_behind : (answer : List Frame) (broke : LineFault) → AnswersBehind mid frame answer new → 1 ≤ length answer
-        → KeepsBack (lack_code_at mid.core.stage) Verifier heard (flat_map frame_spelling answer) broke first now → IsNoted (line_outcome broke)
+    unanswered_behind : (answer : List Frame) (broke : LineFault) → VerifierAnswersBehind mid frame answer new → 1 ≤ length answer
+        → KeepsBack (lack_code_at mid.core.stage) Verifier heard (flat_map frame_spelling answer) broke first now → IsNoted (verifier_line_outcome broke)
     unanswered_behind answer broke by some (inl lacks) =
-        subst (λ f. IsNoted (line_outcome f)) (sym lacks.0)
+        subst (λ f. IsNoted (verifier_line_outcome f)) (sym lacks.0)
         (lacks_behind by.span by.behind by.grantor by.granted by.taken
         (subst (λ c. TriesCode Verifier heard c first now)
         (no_lack_behind by.span.start mid.core.stage (leased by.span by.behind by.grantor by.granted).behind) lacks.1))
     unanswered_behind answer broke by some (inr lost) =
-        still_noted (line_outcome broke) (bytes_from Prover (frame_spelling frame)) by.taken by.grantor lost.logged (line_no_hello broke)
+        still_noted (verifier_line_outcome broke) (bytes_from Prover (frame_spelling frame)) by.taken by.grantor lost.logged (line_no_hello broke)
         (stopped_so by.span by.behind by.grantor by.granted broke
         (stops_unsent mid.core.job mid.core.stage new.core.stage place frame answer broke passed first now expected allowed stood.at.log
         by.answers some lost))
@@ -469,7 +469,7 @@ module _ {R : Type 0} (jobs : VerifierJobs) (grants : Grants R) (old : R) (once 
       -- it alone came
       hello_heard : came_hello ≡ bytes_from Prover (hello_frame met.hello)
       hello_heard =
-          let none : passed ≡ [] = subst (λ p. IsLogAt mid.core.job p passed) met.waits stood.at.log in
+          let none : passed ≡ [] = subst (λ p. IsVerifierLogAt mid.core.job p passed) met.waits stood.at.log in
           λ i. none i ++ bytes_from Prover (frame_spelling (met.is i))
 
       -- and was refused
@@ -576,14 +576,14 @@ module _ {R : Type 0} (jobs : VerifierJobs) (grants : Grants R) (old : R) (once 
 
     unsent_noted : (answer : List Frame) (broke : LineFault) → GrantsUnits jobs grants mid frame answer new
         → KeepsBack (lack_code_at mid.core.stage) Verifier came_hello (flat_map frame_spelling answer) broke first now
-        → IsNoted (line_outcome broke)
+        → IsNoted (verifier_line_outcome broke)
     unsent_noted answer broke by (inl lacks) =
-        lacks_noted by.greeted (line_outcome broke) by.span (tried_adds (lack_code_at mid.core.stage) came_hello first now lacks.1) by.leased by.granted by.are
-        (line_no_hello broke) (lacks_grant by.span) refl (ap line_outcome lacks.0)
+        lacks_noted by.greeted (verifier_line_outcome broke) by.span (tried_adds (lack_code_at mid.core.stage) came_hello first now lacks.1) by.leased by.granted by.are
+        (line_no_hello broke) (lacks_grant by.span) refl (ap verifier_line_outcome lacks.0)
         (by.are, refused_grant by.greeted (lack_code_at mid.core.stage) 4 (ap lack_code_at by.greeted.met.waits) lacks.1)
     unsent_noted answer broke by (inr lost) =
         let spelled = grant_frame (granted_from new.core.job by.span.start) in
-        lacks_noted by.greeted (line_outcome broke) by.span ([], lost.logged ∙ sym (append-nil came_hello)) by.leased by.granted by.are
+        lacks_noted by.greeted (verifier_line_outcome broke) by.span ([], lost.logged ∙ sym (append-nil came_hello)) by.leased by.granted by.are
         (line_no_hello broke) (loses_grant by.span broke) refl refl (
           by.are,
           record {
@@ -602,15 +602,15 @@ module _ {R : Type 0} (jobs : VerifierJobs) (grants : Grants R) (old : R) (once 
   noted told told_is = by_outcome outcome told_is left.halts
     where
       refused : (fault : VerifierOutcome) → TurnsDown (serves grants) Verifier passed mid new fault first now → IsNoted fault
-      refused fault stop = elim (subst (λ j. Refuses j grants mid stop.frame fault stop.code new) stood.jobs_are stop.refused.1) [
+      refused fault stop = elim (subst (λ j. ServingRefuses j grants mid stop.frame fault stop.code new) stood.jobs_are stop.refused.1) [
         | inl by ↦ hello_noted stop.frame fault stop.code by stop.tried
         | inr (inl by) ↦ lease_noted stop.frame fault stop.code by stop.tried
         | inr (inr (inl by)) ↦ lacking_noted stop.frame fault stop.code by stop.tried
         | inr (inr (inr by)) ↦ refused_behind stop.place stop.frame stop.expected stop.allowed fault stop.code by stop.tried
       ]
 
-      unanswered : (broke : LineFault) → KeepsAnswer (serves grants) Verifier passed mid new broke first now → IsNoted (line_outcome broke)
-      unanswered broke stop = elim (subst (λ j. Answers j grants mid stop.turn.frame stop.turn.answer new) stood.jobs_are stop.is.answered.1) [
+      unanswered : (broke : LineFault) → KeepsAnswer (serves grants) Verifier passed mid new broke first now → IsNoted (verifier_line_outcome broke)
+      unanswered broke stop = elim (subst (λ j. ServingAnswers j grants mid stop.turn.frame stop.turn.answer new) stood.jobs_are stop.is.answered.1) [
         | inl by ↦ unsent_noted stop.turn.frame stop.turn.answer broke by stop.kept
         | inr by ↦ unanswered_behind stop.is.place stop.turn.frame stop.is.expected stop.is.allowed stop.turn.answer broke by stop.some stop.kept
       ]

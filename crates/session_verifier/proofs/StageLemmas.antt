@@ -20,7 +20,7 @@ use Rattle.proof_frames.specs.Frames.{IsShort}
 use Rattle.session_core.specs.Rounds.{AreServedRounds, round_turns}
 use Rattle.session_core.specs.Jobs.{VerifierJob, units_of_job, granted_from}
 use Rattle.session_core.specs.Cores.{awaits_asks, awaits_corrections, behind_grant, VerifierStage, AnswersAsks, IsVerifierStage, awaits_hello, owes_grant, awaits_sums, awaits_openings, has_judged, has_refused, verifier_expects, VerifierAnswers}
-use Rattle.session_verifier.specs.Stages.{IsBehind, IsHeldJob, IsLogAt, IsStopped, first_turn, second_turn, ComesThere, IsTurnsLog, IsFixedLog, last_turn}
+use Rattle.session_verifier.specs.Stages.{IsBehind, IsHeldJob, IsVerifierLogAt, IsStopped, first_turn, second_turn, ComesThere, IsTurnsLog, IsFixedLog, last_turn}
 use Rattle.std.proofs.lemmas.Option.{same_Some}
 use Rattle.zk_model.specs.Program.{section_count}
 use Rattle.zk_model.specs.View.{verdict_code, verdict_number}
@@ -31,7 +31,7 @@ use Rattle.session_core.specs.Judgements.{verdict_in}
 use Rattle.session_core.specs.declared.judgement.Judgement.{Judgement}
 use Rattle.session_core.specs.Extending.{asks_in}
 use Rattle.session_driver.specs.Runs.{Moves}
-use Rattle.session_verifier.specs.Serving.{frames_left}
+use Rattle.session_verifier.specs.Serving.{verifier_frames_left}
 use Rattle.frame_link.proofs.FramesLemmas.{reply_length}
 use Rattle.zk_port.specs.Counts.{counted}
 use Rattle.frame_link.specs.declared.fault.LineFault.{LineFault}
@@ -219,9 +219,9 @@ one_answer frame = ap (bytes_from Verifier) (append-nil (frame_spelling frame))
 
 -- asks of one unit more, with their answer
 asks_on : (job : VerifierJob) (start : ℕ) (asked : List (List TreeAsk)) (trees : List TreeAsk) (now : VerifierStage) (log : List (Side × ℕ)) (frame : Frame)
-    (answer : List Frame) → RepliesAreInRange → IsHeldJob job → IsLogAt job (awaits_asks start asked) log
+    (answer : List Frame) → RepliesAreInRange → IsHeldJob job → IsVerifierLogAt job (awaits_asks start asked) log
     → AreAsks job.task.file.params.height job.task.file.params.trees trees → frame ≡ asks trees
-    → AnswersAsks job start (asked ++ trees ∷ []) answer now → IsLogAt job now (log_behind log frame answer)
+    → AnswersAsks job start (asked ++ trees ∷ []) answer now → IsVerifierLogAt job now (log_behind log frame answer)
 asks_on job start asked trees now log frame answer law held at are is answers =
     let all_asked = asked ++ trees ∷ [] in
     let heard = log ++ bytes_from Prover (ask_frame trees) in
@@ -229,13 +229,13 @@ asks_on job start asked trees now log frame answer law held at are is answers =
     let turned = subst (λ l. IsTurnsLog job start [] l heard) (flat_map_more ask_frame [] asked trees)
     (said_more job start [] (flat_map ask_frame asked) log (ask_frame trees) at.1) in
     elim answers [
-      | inl more ↦ subst (λ n. IsLogAt job n (log_behind log frame answer)) (sym more.2) (
+      | inl more ↦ subst (λ n. IsVerifierLogAt job n (log_behind log frame answer)) (sym more.2) (
         record { extended = at.0.extended; more = more.0; each = each },
         subst (IsTurnsLog job start [] (flat_map ask_frame all_asked)) (sym (append-nil heard) ∙ (λ i. log_behind log (sym is i) (sym more.1 i))) turned,
       )
       | inr all ↦
           let replied = round_replies job.task.file (granted_from job start) all_asked in
-          subst (λ n. IsLogAt job n (log_behind log frame answer)) (sym all.2) (record {
+          subst (λ n. IsVerifierLogAt job n (log_behind log frame answer)) (sym all.2) (record {
             rounds = record { asks = all_asked; replies = replied } ∷ [];
             served = served_round job start all_asked law held at.1.within at.0.extended all.0 each;
             turned = subst (IsTurnsLog job start ((flat_map ask_frame all_asked, flat_map reply_frame replied) ∷ []) [])
@@ -246,10 +246,10 @@ asks_on job start asked trees now log frame answer law held at are is answers =
 
 pub logs_on : (job : VerifierJob) (stage now : VerifierStage) (log : List (Side × ℕ)) (expect : Expect) (frame : Frame) (answer : List Frame)
     → RepliesAreInRange → IsHeldJob job
-    → verifier_expects job stage ≡ Some expect → Allows expect frame → IsLogAt job stage log → VerifierAnswers job stage frame answer now
-    → IsLogAt job now (log_behind log frame answer)
+    → verifier_expects job stage ≡ Some expect → Allows expect frame → IsVerifierLogAt job stage log → VerifierAnswers job stage frame answer now
+    → IsVerifierLogAt job now (log_behind log frame answer)
 logs_on job awaits_hello now log expect frame answer law held expects allowed at answers =
-    subst (λ n. IsLogAt job n (log_behind log frame answer)) (sym answers.4) (record {
+    subst (λ n. IsVerifierLogAt job n (log_behind log frame answer)) (sym answers.4) (record {
       greeting = record { hello = answers.0; fits = answers.2 };
       bytes = (λ i. log_behind (at i) (answers.1 i) (answers.3 i)) ∙ append-nil (bytes_from Prover (hello_frame answers.0));
     })
@@ -263,7 +263,7 @@ logs_on job (awaits_corrections start) now log expect frame answer law held expe
     let coin = challenge_coin job.task.file start in
     let given = allowed_at (places.Corrections job.task.statement.program.givens) expect frame expects allowed in
     let same : given.0 ≡ d = ap corrections_in (sym given.1 ∙ answers.1) in
-    subst (λ n. IsLogAt job n (log_behind log frame answer)) (sym answers.3) (
+    subst (λ n. IsVerifierLogAt job n (log_behind log frame answer)) (sym answers.3) (
       subst (AreElements job.task.statement.program.givens) same given.2,
       subst (IsFixedLog job start (second_turn job start d ∷ []) [])
           (ap (λ l. (log ++ bytes_from Prover (corrections_frame d)) ++ l) (sym (one_answer (challenge coin))) ∙ (λ i. log_behind log (sym answers.1 i) (sym answers.2 i)))
@@ -274,7 +274,7 @@ logs_on job (awaits_sums start d) now log expect frame answer law held expects a
     let both = answers.0 in
     let given = allowed_at (places.Sums (section_count job.task.statement.program job.section_length)) expect frame expects allowed in
     let same : given.0 ≡ both = ap sums_in (sym given.1 ∙ answers.1) in
-    subst (λ n. IsLogAt job n (log_behind log frame answer)) (sym answers.3) (
+    subst (λ n. IsVerifierLogAt job n (log_behind log frame answer)) (sym answers.3) (
       at.0,
       subst (AreSums (section_count job.task.statement.program job.section_length)) same given.2,
       subst (IsFixedLog job start (second_turn job start d ∷ []) (sums_frame both))
@@ -293,7 +293,7 @@ logs_on job (awaits_openings start d both) now log expect frame answer law held 
     ∙ (λ i. log_behind log (sym answers.2 i) (sym answers.4 i)))
     (fixed_done job start second (sums_frame both ++ openings_frame macs) (log ++ bytes_from Prover (openings_frame macs)) (verdict_frame code number)
     (fixed_more job start second (sums_frame both) log (openings_frame macs) at.2)) in
-    subst (λ n. IsLogAt job n (log_behind log frame answer)) (sym answers.5) (record {
+    subst (λ n. IsVerifierLogAt job n (log_behind log frame answer)) (sym answers.5) (record {
       corrections = d;
       elements = at.0;
       sums = both;
@@ -315,18 +315,18 @@ grant_begins job start = elim (either_kind job.task.file.params.kind) [
 
 -- it stays one, and a frame fewer comes yet
 pub stays_behind : (job : VerifierJob) (start : ℕ) (stage now : VerifierStage) (frame : Frame) (answer : List Frame) → IsBehind start stage
-    → VerifierAnswers job stage frame answer now → IsBehind start now × (frames_left job now < frames_left job stage)
+    → VerifierAnswers job stage frame answer now → IsBehind start now × (verifier_frames_left job now < verifier_frames_left job stage)
 stays_behind job start awaits_hello now frame answer behind answers = absurd behind
 stays_behind job start (awaits_asks begun asked) now frame answer behind answers = elim answers.2 [
-  | inl more ↦ (subst (IsBehind start) (sym more.2) behind, omega (arith, ap (frames_left job) more.2, more.0, length-append asked (answers.0 ∷ [])))
-  | inr all ↦ (subst (IsBehind start) (sym all.2) behind, omega (arith, ap (frames_left job) all.2, all.0, length-append asked (answers.0 ∷ [])))
+  | inl more ↦ (subst (IsBehind start) (sym more.2) behind, omega (arith, ap (verifier_frames_left job) more.2, more.0, length-append asked (answers.0 ∷ [])))
+  | inr all ↦ (subst (IsBehind start) (sym all.2) behind, omega (arith, ap (verifier_frames_left job) all.2, all.0, length-append asked (answers.0 ∷ [])))
 ]
 stays_behind job start (awaits_corrections begun) now frame answer behind answers =
-    (subst (IsBehind start) (sym answers.3) behind, omega (arith, ap (frames_left job) answers.3))
+    (subst (IsBehind start) (sym answers.3) behind, omega (arith, ap (verifier_frames_left job) answers.3))
 stays_behind job start (awaits_sums begun d) now frame answer behind answers =
-    (subst (IsBehind start) (sym answers.3) behind, omega (arith, ap (frames_left job) answers.3))
+    (subst (IsBehind start) (sym answers.3) behind, omega (arith, ap (verifier_frames_left job) answers.3))
 stays_behind job start (awaits_openings begun d both) now frame answer behind answers =
-    (subst (IsBehind start) (sym answers.5) behind, omega (arith, ap (frames_left job) answers.5))
+    (subst (IsBehind start) (sym answers.5) behind, omega (arith, ap (verifier_frames_left job) answers.5))
 stays_behind job start other now frame answer behind answers = absurd answers
 
 -- where none is expected it has judged
@@ -379,7 +379,7 @@ short_there job stage now frame answer law held expected at answers = by_place (
 -- ---- the grant
 
 pub grant_behind : (job : VerifierJob) (start : ℕ) (log : List (Side × ℕ)) → start + units_of_job job ≤ job.task.file.params.total
-    → IsLogAt job owes_grant log → IsLogAt job (behind_grant job start) (log ++ bytes_from Verifier (grant_frame (granted_from job start)))
+    → IsVerifierLogAt job owes_grant log → IsVerifierLogAt job (behind_grant job start) (log ++ bytes_from Verifier (grant_frame (granted_from job start)))
 grant_behind job start log within at =
     let now : List (Side × ℕ) = log ++ bytes_from Verifier (grant_frame (granted_from job start)) in
     let front : List (Side × ℕ) = bytes_from Prover (first_turn job at.greeting start).0 ++ bytes_from Verifier (first_turn job at.greeting start).1 in
@@ -388,9 +388,9 @@ grant_behind job start log within at =
     ∙ sym (append-nil front) ∙ sym (append-nil (front ++ [])) in
     let turned : IsTurnsLog job start [] [] now = record { within = within; greeting = at.greeting; spelled = spelled } in
     elim (either_kind job.task.file.params.kind) [
-      | inl direct ↦ subst (λ p. IsLogAt job p now) (sym (behind_direct job start direct))
+      | inl direct ↦ subst (λ p. IsVerifierLogAt job p now) (sym (behind_direct job start direct))
           (record { rounds = []; served = served_none job start direct; turned = turned })
-      | inr extended ↦ subst (λ p. IsLogAt job p now) (sym (behind_extended job start extended)) (
+      | inr extended ↦ subst (λ p. IsVerifierLogAt job p now) (sym (behind_extended job start extended)) (
         record { extended = extended; more = omega arith; each = All-nil (AreAsks job.task.file.params.height job.task.file.params.trees) },
         turned,
       )
@@ -416,7 +416,7 @@ few_of job stage log comes other also = within_longest other comes.rest (within_
 
 -- no frame came
 pub stops_without : {S F : Type 0} (moves : Moves S F) (job : VerifierJob) (stage : VerifierStage) (log : List (Side × ℕ)) (mid new : S) (broke : LineFault)
-    (first now : LinkSnapshot) → moves.expects mid ≡ verifier_expects job stage → IsLogAt job stage log
+    (first now : LinkSnapshot) → moves.expects mid ≡ verifier_expects job stage → IsVerifierLogAt job stage log
     → Misses moves Verifier log mid new broke first now → IsStopped job stage broke first now
 stops_without moves job stage log mid new broke first now same at misses = record {
   comes = record {
@@ -433,7 +433,7 @@ stops_without moves job stage log mid new broke first now same at misses = recor
 
 -- a frame came
 abbrev comes_whole : (job : VerifierJob) (stage : VerifierStage) (place : Expect) (frame : Frame) (log now : List (Side × ℕ))
-    → verifier_expects job stage ≡ Some place → Allows place frame → IsLogAt job stage log → now ≡ log ++ bytes_from Prover (frame_spelling frame)
+    → verifier_expects job stage ≡ Some place → Allows place frame → IsVerifierLogAt job stage log → now ≡ log ++ bytes_from Prover (frame_spelling frame)
     → ComesThere job stage now
 comes_whole job stage place frame log now expects allowed at logged = record {
   before = log;
@@ -447,7 +447,7 @@ comes_whole job stage place frame log now expects allowed at logged = record {
 
 -- and memory was missing for its answer
 pub stops_lacking : (job : VerifierJob) (start : ℕ) (stage : VerifierStage) (place : Expect) (frame : Frame) (log : List (Side × ℕ)) (first now : LinkSnapshot)
-    → IsBehind start stage → verifier_expects job stage ≡ Some place → Allows place frame → IsLogAt job stage log
+    → IsBehind start stage → verifier_expects job stage ≡ Some place → Allows place frame → IsVerifierLogAt job stage log
     → GoesWell Verifier (log ++ bytes_from Prover (frame_spelling frame)) first now → IsStopped job stage fault.NoMemory first now
 stops_lacking job start stage place frame log first now behind expects allowed at well = record {
   comes = comes_whole job stage place frame log now.log expects allowed at well.logged;
@@ -461,7 +461,7 @@ stops_lacking job start stage place frame log first now behind expects allowed a
 
 -- or the send of that was refused
 pub stops_unsent : (job : VerifierJob) (stage next : VerifierStage) (place : Expect) (frame : Frame) (answer : List Frame) (broke : LineFault) (log : List (Side × ℕ))
-    (first now : LinkSnapshot) → verifier_expects job stage ≡ Some place → Allows place frame → IsLogAt job stage log
+    (first now : LinkSnapshot) → verifier_expects job stage ≡ Some place → Allows place frame → IsVerifierLogAt job stage log
     → VerifierAnswers job stage frame answer next → 1 ≤ length answer
     → IsLostBy broke Verifier (log ++ bytes_from Prover (frame_spelling frame)) (flat_map frame_spelling answer) first now
     → IsStopped job stage broke first now

@@ -30,7 +30,7 @@ use Rattle.session_core.specs.Judgements.{IsJudgement, verdict_in}
 use Rattle.session_core.specs.Cores.{VerifierStage, DiffersFirst}
 use Rattle.session_core.specs.declared.judgement.Judgement.{Judgement}
 use Rattle.session_core.specs.declared.judgement.Judgement.TheVariants as judged
-use Rattle.session_verifier.specs.Outcomes.{Refuses, lease_outcome, judgement_outcome, refusal_of}
+use Rattle.session_verifier.specs.Outcomes.{HasRefusal, lease_outcome, judgement_outcome, refusal_of}
 use Rattle.session_verifier.specs.Stages.{Greeting, IsGrantUnsent, IsJudged, IsRefusedGrant, IsStopped, IsWholeHello, RefusesAfter}
 use Rattle.session_verifier.specs.declared.note.VerifierOutcome.{VerifierOutcome}
 use Rattle.session_verifier.specs.declared.note.VerifierOutcome.TheVariants.{Accepted, RejectedSum, RejectedOpening, PeerEnded, BadFrame, BadHello, Exhausted, Device, Broken, Link, NoMemory}
@@ -225,7 +225,7 @@ pub record CountsFaults (outcome : VerifierOutcome) (first now : LinkSnapshot) :
   pub later : first.faults ≤ now.faults
   pub failed : outcome ≡ Link → Rose first.faults now.faults
   pub unfailed : (now.faults ≡ first.faults) ⊎ (outcome ≡ Link)
-      ⊎ (Refuses outcome × (sent_by Verifier now.log ≡ []) × (now.sends ≡ counted true first.sends)
+      ⊎ (HasRefusal outcome × (sent_by Verifier now.log ≡ []) × (now.sends ≡ counted true first.sends)
       × (now.refused_sends ≡ counted true first.refused_sends))
 
 -- at most one receive more than bytes of the prover came
@@ -235,7 +235,7 @@ ReceivesFew first now = now.receives ≤ first.receives + length (sent_by Prover
 -- The peer is an honest prover with the same statement, a file that is dealt with the verifier's, and values that give the
 -- claims: what came from it is a beginning of what such a prover sends for what the verifier sent, and it ended only after all
 -- of that.
-pub record HasHonestPeer (job : VerifierJob) (prover : ProverTask) (outcome : VerifierOutcome) (log : List (Side × ℕ)) : Type 0 where
+pub record HasHonestProver (job : VerifierJob) (prover : ProverTask) (outcome : VerifierOutcome) (log : List (Side × ℕ)) : Type 0 where
   pub counterparts : AreCounterparts prover job.task
   pub witness : HasWitness prover
   pub claims : GivesClaims prover
@@ -248,10 +248,10 @@ IsAcceptedInCalm answer outcome first now =
     RefusesNoLease answer → ¬ Rose first.faults now.faults → (outcome ≡ Accepted) ⊎ (outcome ≡ NoMemory)
 
 -- so it is with an honest peer
-abbrev pub Completes :
+abbrev pub VerifierCompletes :
     VerifierJob → Option (Result Span LeaseFault) → VerifierOutcome → LinkSnapshot → LinkSnapshot → Type 0
-Completes job answer outcome first now =
-    (prover : ProverTask) → HasHonestPeer job prover outcome now.log → IsAcceptedInCalm answer outcome first now
+VerifierCompletes job answer outcome first now =
+    (prover : ProverTask) → HasHonestProver job prover outcome now.log → IsAcceptedInCalm answer outcome first now
 
 -- The peer is an honest prover of one of the statements: one that is taken, since a hello is for it and for none before it. All
 -- hellos for one statement are for the same ones, so that of the peer is taken for it too.
@@ -259,7 +259,7 @@ pub record HasHonestCaller (jobs : VerifierJobs) (prover : ProverTask) (outcome 
   pub number : ℕ
   pub hello : Hello
   pub first : IsFirstFor jobs number hello
-  pub peer : HasHonestPeer (job_at jobs number) prover outcome log
+  pub peer : HasHonestProver (job_at jobs number) prover outcome log
 
 -- and with an honest prover of whichever statement
 abbrev pub CompletesForEach :

@@ -25,16 +25,16 @@ lease_fault (Broken first) = Some (lease.Broken first)
 lease_fault outcome = None
 
 -- of a frame that did not pass
-abbrev pub line_outcome : LineFault → VerifierOutcome
-line_outcome (line.PeerEnded at) = PeerEnded at
-line_outcome (line.BadFrame place) = BadFrame place
-line_outcome line.Link = Link
-line_outcome line.NoMemory = NoMemory
+abbrev pub verifier_line_outcome : LineFault → VerifierOutcome
+verifier_line_outcome (line.PeerEnded at) = PeerEnded at
+verifier_line_outcome (line.BadFrame place) = BadFrame place
+verifier_line_outcome line.Link = Link
+verifier_line_outcome line.NoMemory = NoMemory
 
 -- of a frame that the verifier refused
-abbrev pub session_outcome : VerifierFault → VerifierOutcome
-session_outcome (session.BadHello differs) = BadHello differs
-session_outcome session.NoMemory = NoMemory
+abbrev pub verifier_fault_outcome : VerifierFault → VerifierOutcome
+verifier_fault_outcome (session.BadHello differs) = BadHello differs
+verifier_fault_outcome session.NoMemory = NoMemory
 
 -- of what it found
 abbrev pub judgement_outcome : Judgement → VerifierOutcome
@@ -63,5 +63,5 @@ refusal_of NoMemory = Some 4
 refusal_of outcome = None
 
 -- it has one: the verifier refuses in a grant's place, which it may where memory is missing
-abbrev pub Refuses : VerifierOutcome → Type 0
-Refuses outcome = (code : ℕ) × (refusal_of outcome ≡ Some code)
+abbrev pub HasRefusal : VerifierOutcome → Type 0
+HasRefusal outcome = (code : ℕ) × (refusal_of outcome ≡ Some code)

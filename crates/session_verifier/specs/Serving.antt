@@ -15,7 +15,7 @@ use Rattle.session_driver.specs.Runs.{Moves}
 use Rattle.session_driver.specs.declared.drive.Outcome.{Outcome}
 use Rattle.session_driver.specs.declared.drive.Outcome.TheVariants.{Done, Refused, Cut}
 use Rattle.session_verifier.specs.Stages.{Greets, IsBehind, IsHeldJob, AreUnits}
-use Rattle.session_verifier.specs.Outcomes.{hello_code, judgement_outcome, lease_code, lease_outcome, line_outcome, session_outcome}
+use Rattle.session_verifier.specs.Outcomes.{hello_code, judgement_outcome, lease_code, lease_outcome, verifier_line_outcome, verifier_fault_outcome}
 use Rattle.session_verifier.specs.declared.note.VerifierOutcome.{VerifierOutcome}
 use Rattle.session_verifier.specs.declared.note.VerifierOutcome.TheVariants.{NoMemory}
 
@@ -63,15 +63,15 @@ lack_code_at awaits_hello = Some 4
 lack_code_at stage = None
 
 -- how many frames it takes yet, at most: from the hello on one for each unit, the corrections, the sums and the openings
-abbrev pub frames_left : VerifierJob → VerifierStage → ℕ
-frames_left job awaits_hello = MAX_UNITS + 4
-frames_left job owes_grant = MAX_UNITS + 4
-frames_left job (awaits_asks start asked) = units_of_job job - length asked + 3
-frames_left job (awaits_corrections start) = 3
-frames_left job (awaits_sums start d) = 2
-frames_left job (awaits_openings start d both) = 1
-frames_left job (has_judged start judgement) = 0
-frames_left job has_refused = 0
+abbrev pub verifier_frames_left : VerifierJob → VerifierStage → ℕ
+verifier_frames_left job awaits_hello = MAX_UNITS + 4
+verifier_frames_left job owes_grant = MAX_UNITS + 4
+verifier_frames_left job (awaits_asks start asked) = units_of_job job - length asked + 3
+verifier_frames_left job (awaits_corrections start) = 3
+verifier_frames_left job (awaits_sums start d) = 2
+verifier_frames_left job (awaits_openings start d both) = 1
+verifier_frames_left job (has_judged start judgement) = 0
+verifier_frames_left job has_refused = 0
 
 -- A hello came where one was awaited, and this is what it was taken for.
 pub record Met {R : Type 0} (jobs : VerifierJobs) (old : Served R) (frame : Frame) (new : Served R) : Type 0 where
@@ -101,7 +101,7 @@ pub record GrantsUnits {R : Type 0} (jobs : VerifierJobs) (grants : Grants R) (o
   pub granted : new.granted ≡ Some span
 
 -- after the grant the core answers
-pub record AnswersBehind {R : Type 0} (old : Served R) (frame : Frame) (answer : List Frame) (new : Served R) : Type 0 where
+pub record VerifierAnswersBehind {R : Type 0} (old : Served R) (frame : Frame) (answer : List Frame) (new : Served R) : Type 0 where
   pub span : Span
   pub behind : old.granted ≡ Some span
   pub held : IsHeldJob old.core.job
@@ -117,18 +117,18 @@ pub record RefusesHello {R : Type 0} (jobs : VerifierJobs) (old : Served R) (fra
   pub met : Met jobs old frame new
   pub fault : VerifierFault
   pub refuses : VerifierRefuses new.core.job awaits_hello frame fault
-  pub outcome_is : outcome ≡ session_outcome fault
+  pub outcome_is : outcome ≡ verifier_fault_outcome fault
   pub code_is : code ≡ Some (hello_code fault)
   pub granted : new.granted ≡ old.granted
   pub grantor : new.grantor ≡ old.grantor
 
 -- the core refuses a frame after the grant
-pub record RefusesBehind {R : Type 0} (old : Served R) (frame : Frame) (outcome : VerifierOutcome) (code : Option ℕ) (new : Served R) : Type 0 where
+pub record VerifierRefusesBehind {R : Type 0} (old : Served R) (frame : Frame) (outcome : VerifierOutcome) (code : Option ℕ) (new : Served R) : Type 0 where
   pub span : Span
   pub behind : old.granted ≡ Some span
   pub fault : VerifierFault
   pub refuses : VerifierRefuses old.core.job old.core.stage frame fault
-  pub outcome_is : outcome ≡ session_outcome fault
+  pub outcome_is : outcome ≡ verifier_fault_outcome fault
   pub code_is : code ≡ None
   pub job : new.core.job ≡ old.core.job
   pub taken : new.taken ≡ old.taken
@@ -157,21 +157,21 @@ pub record LacksGrantFrame {R : Type 0} (jobs : VerifierJobs) (grants : Grants R
   pub granted : new.granted ≡ Some span
 
 -- what is answered, and what is refused
-abbrev pub Answers : {R : Type 0} → VerifierJobs → Grants R → Served R → Frame → List Frame → Served R → Type 0
-Answers jobs grants s frame answer t = GrantsUnits jobs grants s frame answer t ⊎ AnswersBehind s frame answer t
+abbrev pub ServingAnswers : {R : Type 0} → VerifierJobs → Grants R → Served R → Frame → List Frame → Served R → Type 0
+ServingAnswers jobs grants s frame answer t = GrantsUnits jobs grants s frame answer t ⊎ VerifierAnswersBehind s frame answer t
 
-abbrev pub Refuses : {R : Type 0} → VerifierJobs → Grants R → Served R → Frame → VerifierOutcome → Option ℕ → Served R → Type 0
-Refuses jobs grants s frame outcome code t =
+abbrev pub ServingRefuses : {R : Type 0} → VerifierJobs → Grants R → Served R → Frame → VerifierOutcome → Option ℕ → Served R → Type 0
+ServingRefuses jobs grants s frame outcome code t =
     RefusesHello jobs s frame outcome code t ⊎ RefusesLease jobs grants s frame outcome code t
-    ⊎ LacksGrantFrame jobs grants s frame outcome code t ⊎ RefusesBehind s frame outcome code t
+    ⊎ LacksGrantFrame jobs grants s frame outcome code t ⊎ VerifierRefusesBehind s frame outcome code t
 
 -- what a verifier's end does, whose jobs stay
 abbrev pub serves : {R : Type 0} → Grants R → Moves (Served R) VerifierOutcome
 serves grants = record {
   expects = λ s. verifier_expects s.core.job s.core.stage;
   lack_code = λ s. lack_code_at s.core.stage;
-  answers = λ s frame answer t. (t.jobs ≡ s.jobs) × Answers s.jobs grants s frame answer t;
-  refuses = λ s frame outcome code t. (t.jobs ≡ s.jobs) × Refuses s.jobs grants s frame outcome code t;
+  answers = λ s frame answer t. (t.jobs ≡ s.jobs) × ServingAnswers s.jobs grants s frame answer t;
+  refuses = λ s frame outcome code t. (t.jobs ≡ s.jobs) × ServingRefuses s.jobs grants s frame outcome code t;
 }
 
 -- Where it waits for the hello, no statement was taken and no units were asked for yet, and any number may be; else they were granted.
@@ -194,4 +194,4 @@ pub record IsServing {R : Type 0} (grants : Grants R) (now : Served R) : Type 0 
 abbrev pub IsToldAs : VerifierStage → Outcome VerifierOutcome → VerifierOutcome → Type 0
 IsToldAs stage Done outcome = (judgement : Judgement) × (judgement_at stage ≡ Some judgement) × (outcome ≡ judgement_outcome judgement)
 IsToldAs stage (Refused fault) outcome = outcome ≡ fault
-IsToldAs stage (Cut fault) outcome = outcome ≡ line_outcome fault
+IsToldAs stage (Cut fault) outcome = outcome ≡ verifier_line_outcome fault

@@ -11,7 +11,7 @@ use Rattle.frame_link.specs.Lines.{snapshot}
 use Rattle.lease_store.specs.declared.LeaseFault.{LeaseFault}
 use Rattle.session_core.specs.Jobs.{VerifierJob, VerifierJobs, noted_job}
 use Rattle.session_pool.specs.Notes.{granted_by}
-use Rattle.session_verifier.specs.Notes.{AnswersLease, JudgesRightly, AcceptsExactly, IsShown, SendsRightly, KeepsKeys, EndsBecause, LeasesBehindHello, IsTold, CountsFaults, ReceivesFew, TakesStatement, Completes, CompletesForEach}
+use Rattle.session_verifier.specs.Notes.{AnswersLease, JudgesRightly, AcceptsExactly, IsShown, SendsRightly, KeepsKeys, EndsBecause, LeasesBehindHello, IsTold, CountsFaults, ReceivesFew, TakesStatement, VerifierCompletes, CompletesForEach}
 use Rattle.session_verifier.specs.declared.note.SessionNote.{SessionNote}
 use Rattle.session_verifier.specs.declared.note.VerifierOutcome.{VerifierOutcome}
 use Rattle.session_verifier.specs.declared.note.VerifierOutcome.TheVariants.{Accepted}
@@ -21,7 +21,7 @@ use Rattle.session_verifier.specs.declared.note.VerifierOutcome.TheVariants.{Acc
 -- on a whole session, and that an accepted log has no other; what acceptance shows; what the verifier sent; that its keys fit the
 -- pairs of whatever prover; why the session ended; what the link tells beside the log; that what came is what it no longer has to come;
 -- how often it failed; that it is ended; and that with an honest peer the session is accepted, unless memory was missing.
-pub record IsSessionOf
+pub record IsVerifierSession
     (job : VerifierJob)
     (answer : Option (Result Span LeaseFault))
     (granted : Option Span)
@@ -43,7 +43,7 @@ pub record IsSessionOf
   pub came : first.to_come ≡ put_before (sent_by Prover log) link.to_come
   pub faults : CountsFaults outcome (snapshot Verifier [] first) (snapshot Verifier log link)
   pub receives : ReceivesFew (snapshot Verifier [] first) (snapshot Verifier log link)
-  pub complete : Completes job answer outcome (snapshot Verifier [] first) (snapshot Verifier log link)
+  pub complete : VerifierCompletes job answer outcome (snapshot Verifier [] first) (snapshot Verifier log link)
   pub ended : link.is_open ≡ false
 
 -- A note is one of a session in which that was the answer: about the statement that was taken, as its hello says; and with an honest
@@ -51,10 +51,10 @@ pub record IsSessionOf
 pub record IsAnsweredNote {L : Type 0} (link_tells : L → LinkState) (jobs : VerifierJobs) (answer : Option (Result Span LeaseFault))
     (note : SessionNote L) : Type 0 where
   pub statement : TakesStatement jobs note.statement answer note.outcome note.log
-  pub session : IsSessionOf (noted_job jobs note.statement) answer note.granted note.outcome note.log (link_tells note.link)
+  pub session : IsVerifierSession (noted_job jobs note.statement) answer note.granted note.outcome note.log (link_tells note.link)
   pub complete : CompletesForEach jobs answer note.outcome (snapshot Verifier [] session.first)
       (snapshot Verifier note.log (link_tells note.link))
 
 -- a note is one of a session, whatever the answer was
-abbrev pub IsNote : {L : Type 0} → (L → LinkState) → VerifierJobs → SessionNote L → Type 0
-IsNote link_tells jobs note = (answer : Option (Result Span LeaseFault)) × IsAnsweredNote link_tells jobs answer note
+abbrev pub IsVerifierNote : {L : Type 0} → (L → LinkState) → VerifierJobs → SessionNote L → Type 0
+IsVerifierNote link_tells jobs note = (answer : Option (Result Span LeaseFault)) × IsAnsweredNote link_tells jobs answer note

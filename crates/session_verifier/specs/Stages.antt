@@ -21,7 +21,7 @@ use Rattle.session_core.specs.declared.judgement.Judgement.{Judgement}
 use Rattle.session_driver.specs.Leaving.{ComesAt, GoesWell, IsLostBy, StopsShort, Tries}
 use Rattle.zk_model.specs.declared.Span.{Span}
 use Rattle.lease_store.specs.declared.LeaseFault.{LeaseFault}
-use Rattle.session_verifier.specs.Outcomes.{hello_code, judgement_outcome, lease_outcome, lease_code, line_outcome, session_outcome}
+use Rattle.session_verifier.specs.Outcomes.{hello_code, judgement_outcome, lease_outcome, lease_code, verifier_line_outcome, verifier_fault_outcome}
 use Rattle.session_verifier.specs.declared.note.VerifierOutcome.{VerifierOutcome}
 use Rattle.session_verifier.specs.declared.note.VerifierOutcome.TheVariants.{NoMemory}
 use Rattle.session_pool.specs.Notes.{granted_by}
@@ -88,25 +88,25 @@ pub record IsJudgedLog (job : VerifierJob) (start : ℕ) (judgement : Judgement)
       (session_transcript job greeting.hello start rounds corrections sums openings (verdict_in judgement)) judgement
 
 -- What is logged where a verifier waits: the frames that came, each turn with its answer; and how many came of the units' asks.
-abbrev pub IsLogAt : VerifierJob → VerifierStage → List (Side × ℕ) → Type 0
-IsLogAt job awaits_hello log = log ≡ []
-IsLogAt job owes_grant log = IsGreeted job log
-IsLogAt job (awaits_asks start asked) log = AreAsksSoFar job asked × IsTurnsLog job start [] (flat_map ask_frame asked) log
-IsLogAt job (awaits_corrections start) log = IsFixedLog job start [] [] log
-IsLogAt job (awaits_sums start d) log =
+abbrev pub IsVerifierLogAt : VerifierJob → VerifierStage → List (Side × ℕ) → Type 0
+IsVerifierLogAt job awaits_hello log = log ≡ []
+IsVerifierLogAt job owes_grant log = IsGreeted job log
+IsVerifierLogAt job (awaits_asks start asked) log = AreAsksSoFar job asked × IsTurnsLog job start [] (flat_map ask_frame asked) log
+IsVerifierLogAt job (awaits_corrections start) log = IsFixedLog job start [] [] log
+IsVerifierLogAt job (awaits_sums start d) log =
     AreElements job.task.statement.program.givens d × IsFixedLog job start (second_turn job start d ∷ []) [] log
-IsLogAt job (awaits_openings start d both) log =
+IsVerifierLogAt job (awaits_openings start d both) log =
     AreElements job.task.statement.program.givens d
     × AreSums (section_count job.task.statement.program job.section_length) both
     × IsFixedLog job start (second_turn job start d ∷ []) (sums_frame both) log
-IsLogAt job (has_judged start judgement) log = IsJudgedLog job start judgement log
-IsLogAt job has_refused log = ⊥
+IsVerifierLogAt job (has_judged start judgement) log = IsJudgedLog job start judgement log
+IsVerifierLogAt job has_refused log = ⊥
 
 -- ---- why it stops
 
 -- bytes of the frame that is expected where the verifier waits came, and none past it
 abbrev pub ComesThere : VerifierJob → VerifierStage → List (Side × ℕ) → Type 0
-ComesThere job stage log = ComesAt (IsLogAt job) (verifier_expects job) Prover stage log
+ComesThere job stage log = ComesAt (IsVerifierLogAt job) (verifier_expects job) Prover stage log
 
 -- the verifier waits for a frame of a session whose grant begins here, or has judged it
 abbrev pub IsBehind : ℕ → VerifierStage → Type 0
@@ -146,7 +146,7 @@ pub record IsStopped (job : VerifierJob) (stage : VerifierStage) (fault : LineFa
   pub why : StopsAfter job stage now.log place rest fault first now
 
 -- after the grant that begins here
-pub record StopsBehind (job : VerifierJob) (start : ℕ) (fault : LineFault) (first now : LinkSnapshot) : Type 0 where
+pub record VerifierStopsBehind (job : VerifierJob) (start : ℕ) (fault : LineFault) (first now : LinkSnapshot) : Type 0 where
   pub stage : VerifierStage
   pub behind : IsBehind start stage
   pub stopped : IsStopped job stage fault first now
@@ -180,7 +180,7 @@ pub record IsGrantUnsent (job : VerifierJob) (start : ℕ) (fault : LineFault) (
 
 -- a session in which the verifier has judged: all that passed is logged, and nothing failed
 pub record IsJudged (job : VerifierJob) (start : ℕ) (judgement : Judgement) (first now : LinkSnapshot) : Type 0 where
-  pub log : IsLogAt job (has_judged start judgement) now.log
+  pub log : IsVerifierLogAt job (has_judged start judgement) now.log
   pub well : GoesWell Verifier now.log first now
 
 -- ---- what came of it
@@ -213,12 +213,12 @@ answer_at (judges span judgement) = Some (Ok span)
 
 -- and by which outcome it is noted
 abbrev pub outcome_at : Ending → VerifierOutcome
-outcome_at (lacks_hello fault) = line_outcome fault
-outcome_at (turns_away fault) = session_outcome fault
+outcome_at (lacks_hello fault) = verifier_line_outcome fault
+outcome_at (turns_away fault) = verifier_fault_outcome fault
 outcome_at (lacks_units fault) = lease_outcome fault
 outcome_at (lacks_grant span) = NoMemory
-outcome_at (loses_grant span fault) = line_outcome fault
-outcome_at (stops_behind span fault) = line_outcome fault
+outcome_at (loses_grant span fault) = verifier_line_outcome fault
+outcome_at (stops_behind span fault) = verifier_line_outcome fault
 outcome_at (judges span judgement) = judgement_outcome judgement
 
 -- it ended so
@@ -228,7 +228,7 @@ HasEnding job (turns_away fault) first now = IsTurnedAway job fault first now
 HasEnding job (lacks_units fault) first now = IsRefusedGrant job (lease_code fault) first now
 HasEnding job (lacks_grant span) first now = AreUnits job span × IsRefusedGrant job 4 first now
 HasEnding job (loses_grant span fault) first now = AreUnits job span × IsGrantUnsent job span.start fault first now
-HasEnding job (stops_behind span fault) first now = AreUnits job span × StopsBehind job span.start fault first now
+HasEnding job (stops_behind span fault) first now = AreUnits job span × VerifierStopsBehind job span.start fault first now
 HasEnding job (judges span judgement) first now = AreUnits job span × IsJudged job span.start judgement first now
 
 -- what came of a session

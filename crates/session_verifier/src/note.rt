@@ -1,6 +1,6 @@
 // What came of a session at the verifier.
 ghost use Rattle.std.specs.Prelude.{◌≡◌};
-ghost use Rattle.session_verifier.specs.Outcomes.{lease_outcome, line_outcome, session_outcome, judgement_outcome};
+ghost use Rattle.session_verifier.specs.Outcomes.{lease_outcome, verifier_line_outcome, verifier_fault_outcome, judgement_outcome};
 
 use frame_link::{LineFault, Log};
 use lease_store::LeaseFault;
@@ -50,7 +50,7 @@ impl From<LeaseFault> for VerifierOutcome {
 }
 
 impl From<LineFault> for VerifierOutcome {
-    ghost from_gives = { λ fault o. o ≡ line_outcome fault };
+    ghost from_gives = { λ fault o. o ≡ verifier_line_outcome fault };
 
     fn from(fault: LineFault) -> Self {
         match fault {
@@ -63,7 +63,7 @@ impl From<LineFault> for VerifierOutcome {
 }
 
 impl From<VerifierFault> for VerifierOutcome {
-    ghost from_gives = { λ fault o. o ≡ session_outcome fault };
+    ghost from_gives = { λ fault o. o ≡ verifier_fault_outcome fault };
 
     fn from(fault: VerifierFault) -> Self {
         match fault {

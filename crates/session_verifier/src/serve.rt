@@ -13,8 +13,8 @@ ghost use Rattle.session_core.specs.Cores.{VerifierAnswers, VerifierRefuses, awa
 ghost use Rattle.session_driver.specs.Leaving.{HasCome};
 ghost use Rattle.session_driver.specs.Runs.{IsFresh};
 ghost use Rattle.session_driver.specs.declared.drive.Outcome.TheVariants.{Done};
-ghost use Rattle.session_verifier.specs.Outcomes.{hello_code, lease_code, session_outcome};
-ghost use Rattle.session_verifier.specs.Serving.{AnswersBehind, GrantsUnits, IsPlace, IsServing, IsToldAs, LacksGrantFrame, Leases, RefusesBehind, RefusesHello, RefusesLease, frames_left, grants_of, lack_code_at, served, serves};
+ghost use Rattle.session_verifier.specs.Outcomes.{hello_code, lease_code, verifier_fault_outcome};
+ghost use Rattle.session_verifier.specs.Serving.{VerifierAnswersBehind, GrantsUnits, IsPlace, IsServing, IsToldAs, LacksGrantFrame, Leases, VerifierRefusesBehind, RefusesHello, RefusesLease, verifier_frames_left, grants_of, lack_code_at, served, serves};
 ghost use Rattle.session_verifier.specs.Notes.{TakesStatement};
 ghost use Rattle.session_verifier.specs.Stages.{AreUnits, IsBehind, Greets, IsCourse, IsHeldJob};
 ghost use Rattle.session_verifier.specs.declared.note.VerifierOutcome.TheVariants.{NoMemory};
@@ -93,7 +93,7 @@ fn meet(
     ensures due { OnOk result (core.new ≡ record core.old { stage = owes_grant }) }
     ensures refused { IfErr result (λ refusal. (fault : VerifierFault)
         × VerifierRefuses core.old.job core.old.stage (frame_value frame) fault
-        × (refusal.fault ≡ session_outcome fault) × (refusal.code ≡ Some (hello_code fault))) }
+        × (refusal.fault ≡ verifier_fault_outcome fault) × (refusal.code ≡ Some (hello_code fault))) }
     ensures job { core.new.job ≡ core.old.job }
 {
     match core.step(alloc, frame) {
@@ -152,7 +152,7 @@ fn grant_units<'a, R: Grantor>(
         (served jobs.now core.new taken.new granted.new grantor.new)) }
     ensures within { IfSome taken.new (λ n. n < length (all_jobs jobs.now)) }
     ensures fewer { OnOk result
-        (frames_left core.new.job core.new.stage < frames_left core.old.job core.old.stage) }
+        (verifier_frames_left core.new.job core.new.stage < verifier_frames_left core.old.job core.old.stage) }
 {
     take_statement(jobs, core, taken, &frame);
     let job = jobs.noted(*taken);
@@ -197,10 +197,10 @@ fn answer<H: Threads + Sync>(
     ensures short { IfOk result (λ answer. All IsShort (map frame_value answer.items)) }
     ensures refused { IfErr result (λ refusal. (fault : VerifierFault)
         × VerifierRefuses core.old.job core.old.stage (frame_value frame) fault
-        × (refusal.fault ≡ session_outcome fault) × (refusal.code ≡ None)) }
+        × (refusal.fault ≡ verifier_fault_outcome fault) × (refusal.code ≡ None)) }
     ensures behind { OnOk result (IsBehind _span.start core.new.stage) }
     ensures fewer { OnOk result
-        (frames_left core.new.job core.new.stage < frames_left core.old.job core.old.stage) }
+        (verifier_frames_left core.new.job core.new.stage < verifier_frames_left core.old.job core.old.stage) }
     ensures job { core.new.job ≡ core.old.job }
     ensures held { IsHeldJob core.old.job }
 {
@@ -219,7 +219,7 @@ fn answer<H: Threads + Sync>(
 impl<'a, R: Grantor> Party<R> for Serving<'a> {
     ghost use Rattle.std.specs.Prelude.{[]};
     ghost use Rattle.session_core.specs.Cores.{verifier_expects};
-    ghost use Rattle.session_verifier.specs.Serving.{IsServing, frames_left, grants_of, lack_code_at, served, serves};
+    ghost use Rattle.session_verifier.specs.Serving.{IsServing, verifier_frames_left, grants_of, lack_code_at, served, serves};
 
     type Fault = VerifierOutcome;
 
@@ -242,7 +242,7 @@ impl<'a, R: Grantor> Party<R> for Serving<'a> {
         (served s.jobs.now s.core s.taken s.granted asked) frame fault code
         (served t.jobs.now t.core t.taken t.granted then) };
 
-    ghost left = { λ s. frames_left s.core.job s.core.stage };
+    ghost left = { λ s. verifier_frames_left s.core.job s.core.stage };
 
     fn expects(&self) -> Option<Expect> {
         self.core.expects()

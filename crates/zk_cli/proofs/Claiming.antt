@@ -15,7 +15,7 @@ use Rattle.claim_store.specs.Claims.{ClaimState, AreClaims, AreDurable, AreInUse
 use Rattle.claim_store.proofs.Meeting.{claims_more, none_apart}
 use Rattle.claim_store.specs.declared.ClaimFault.{ClaimFault}
 use Rattle.claim_store.specs.declared.ClaimFault.TheVariants.{Broken, OutOfRange, Overlap, Full, Device, NoMemory}
-use Rattle.session_prover.specs.Stores.{Claims}
+use Rattle.session_prover.specs.Stores.{StoreClaims}
 use Rattle.file_commands.specs.ClaimedUnits.{AllHave, AnswersClaim, FindsClaims, FindsMore, KeepsClaims, LeavesAll, LeavesClaims, MayFind, MovesBy, MovesClaims, JournalPlace, asked_span}
 use Rattle.file_commands.specs.Journals.{OpensJournal, disk_change}
 
@@ -42,11 +42,11 @@ some_and o x P is has = subst (λ (p : Option _). IsSomeAnd p P) (sym is) has
 -- who claims from a store moves it, whatever else it holds
 pub by_store : {C D : Type 0} (store_of : C → ClaimState D) (disk_state : D → DiskState) (before after : C) (store later : ClaimState D)
     (asked : Option (ℕ × ℕ)) (answer : Option (Result Span ClaimFault)) → store_of before ≡ store → later ≡ store_of after
-    → MatchOption answer (after ≡ before) (λ a. IsSomeAnd asked (λ units. Claims disk_state (store_of before) units.0 units.1 a (store_of after)))
-    → MatchOption answer (later ≡ store) (λ a. IsSomeAnd asked (λ units. Claims disk_state store units.0 units.1 a later))
+    → MatchOption answer (after ≡ before) (λ a. IsSomeAnd asked (λ units. StoreClaims disk_state (store_of before) units.0 units.1 a (store_of after)))
+    → MatchOption answer (later ≡ store) (λ a. IsSomeAnd asked (λ units. StoreClaims disk_state store units.0 units.1 a later))
 by_store store_of disk_state before after store later asked None from to same = to ∙ ap store_of same ∙ from
 by_store {C} {D} store_of disk_state before after store later asked (Some answer) from to moved =
-    subst (λ (p : ClaimState D × ClaimState D). IsSomeAnd asked (λ units. Claims disk_state p.0 units.0 units.1 answer p.1))
+    subst (λ (p : ClaimState D × ClaimState D). IsSomeAnd asked (λ units. StoreClaims disk_state p.0 units.0 units.1 answer p.1))
     (λ i. (from i, sym to i)) moved
 
 -- where a store's journal is
@@ -119,7 +119,7 @@ module _ {D : Type 0} (disk_state : D → DiskState) (old : DiskState) (store : 
       (counts_now : (t : ℕ) (image : List ℕ) → t ≤ (disk_state later.disk).moment → (disk_state later.disk).images image
       → (disk_state later.disk).images_since t image)
       (sound : AreClaims total store.claims)
-      (start count : ℕ) (answer : Result Span ClaimFault) (moved : Claims disk_state store start count answer later) where
+      (start count : ℕ) (answer : Result Span ClaimFault) (moved : StoreClaims disk_state store start count answer later) where
     abbrev new : DiskState
     new = disk_state later.disk
 
@@ -204,7 +204,7 @@ module _ {D : Type 0} (disk_state : D → DiskState) (old : DiskState) (store : 
       (counts_now : (t : ℕ) (image : List ℕ) → t ≤ (disk_state later.disk).moment → (disk_state later.disk).images image
       → (disk_state later.disk).images_since t image)
       (sound : AreClaims total store.claims)
-      (start count : ℕ) (answer : Result Span ClaimFault) (moved : Claims disk_state store start count answer later)
+      (start count : ℕ) (answer : Result Span ClaimFault) (moved : StoreClaims disk_state store start count answer later)
       → MovesClaims id total (place_of store) store.used store.claims (start, count) answer (disk_change old (disk_state later.disk))
   moves later whole total_is small closed counts_now sound start count answer moved = record {
     cause = cause_of answer moved;
@@ -212,11 +212,11 @@ module _ {D : Type 0} (disk_state : D → DiskState) (old : DiskState) (store : 
     any_moment = any_moment later whole total_is small closed counts_now sound start count answer moved;
   }
     where
-      same : (answer : Result Span ClaimFault) → Claims disk_state store start count answer later → later ≡ store
+      same : (answer : Result Span ClaimFault) → StoreClaims disk_state store start count answer later → later ≡ store
           → (disk_state later.disk).faults ≡ old.faults
       same answer moved is = same_faults later whole total_is small closed counts_now sound start count answer moved is
 
-      cause_of : (answer : Result Span ClaimFault) → Claims disk_state store start count answer later
+      cause_of : (answer : Result Span ClaimFault) → StoreClaims disk_state store start count answer later
           → AnswersClaim total store.slots store.used store.claims (start, count) answer (disk_change old (disk_state later.disk))
       cause_of (Ok claimed) moved = (
         moved.span,
@@ -234,11 +234,11 @@ module _ {D : Type 0} (disk_state : D → DiskState) (old : DiskState) (store : 
       cause_of (Err (Full used)) moved = (moved.cause.0.0, moved.cause.0.4, moved.cause.0.5, same (Err (Full used)) moved moved.cause.1)
       cause_of (Err NoMemory) moved = same (Err NoMemory) moved moved.cause.1
 
-      kept : (answer : Result Span ClaimFault) → Claims disk_state store start count answer later → later ≡ store
+      kept : (answer : Result Span ClaimFault) → StoreClaims disk_state store start count answer later → later ≡ store
           → (first : List ℕ) → old.content ≡ Some first → AllHave (FindsClaims id total (place_of store) store.claims) (disk_state later.disk)
       kept answer moved is = same_finds later whole total_is small closed counts_now sound start count answer moved is
 
-      left_of : (answer : Result Span ClaimFault) → Claims disk_state store start count answer later
+      left_of : (answer : Result Span ClaimFault) → StoreClaims disk_state store start count answer later
           → (first : List ℕ) → old.content ≡ Some first
           → LeavesClaims id total (place_of store) store.claims (start, count) answer (disk_state later.disk)
       left_of (Ok claimed) moved = durable_finds later whole total_is small closed counts_now sound start count (Ok claimed) moved
@@ -276,7 +276,7 @@ module _ {D : Type 0} (disk_state : D → DiskState) (old : DiskState) (store : 
       (counts_now : (t : ℕ) (image : List ℕ) → t ≤ (disk_state later.disk).moment → (disk_state later.disk).images image
       → (disk_state later.disk).images_since t image)
       (asked : Option (ℕ × ℕ)) (answer : Option (Result Span ClaimFault))
-      → MatchOption answer (later ≡ store) (λ a. IsSomeAnd asked (λ units. Claims disk_state store units.0 units.1 a later))
+      → MatchOption answer (later ≡ store) (λ a. IsSomeAnd asked (λ units. StoreClaims disk_state store units.0 units.1 a later))
       → KeepsClaims choice id total asked answer (disk_change old (disk_state later.disk))
   keeps_claims later whole total_is small sound rising in_use closed counts_now asked None same =
       subst (λ (s : ClaimState D). KeepsClaims choice id total asked None (disk_change old (disk_state s.disk))) (sym same)

@@ -15,7 +15,7 @@ use Rattle.session_core.specs.Jobs.{VerifierJobs}
 use Rattle.session_pool.specs.Doors.{TakesLinks}
 use Rattle.session_pool.specs.Notes.{AreGrantsApart, IsBetween, IsMarked, IsRefusedAmong, IsRefusedBy, TellsMark, meets_fault}
 use Rattle.session_verifier.specs.Outcomes.{lease_fault}
-use Rattle.session_verifier.specs.Sessions.{IsNote}
+use Rattle.session_verifier.specs.Sessions.{IsVerifierNote}
 use Rattle.session_verifier.specs.declared.note.SessionNote.{SessionNote}
 use Rattle.statement_file.specs.Services.{Service}
 use Rattle.file_commands.specs.Journals.{DiskChange}
@@ -107,7 +107,7 @@ leads_permuted {L} link_tells service jobs notes ordered door_failed memory_fail
     let total = jobs.first.task.file.params.total in
     record {
       few = leads.few;
-      each = All-permutation (IsNote link_tells jobs) notes ordered permuted leads.each;
+      each = All-permutation (IsVerifierNote link_tells jobs) notes ordered permuted leads.each;
       taken = subst (λ (n : ℕ). TakesLinks service.options.sessions n door_failed memory_failed
           (after_listen service.address service.options.timeout service.options.sessions door.old) door.new) (sym same) leads.taken;
       base = leads.base;

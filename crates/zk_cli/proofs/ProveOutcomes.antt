@@ -21,7 +21,7 @@ use Rattle.lease_journal.specs.declared.fault.StartFault.TheVariants as start
 use Rattle.session_core.specs.Jobs.{ProverJob}
 use Rattle.session_prover.specs.Notes.{IsAskedRight, IsGrantRead}
 use Rattle.session_prover.specs.Outcomes.{claim_outcome}
-use Rattle.session_prover.specs.Sessions.{IsNote}
+use Rattle.session_prover.specs.Sessions.{IsProverNote}
 use Rattle.session_prover.specs.declared.note.ProverNote.{ProverNote}
 use Rattle.session_prover.specs.declared.note.ProverOutcome.{ProverOutcome}
 use Rattle.session_prover.specs.declared.note.ProverOutcome.TheVariants as ended
@@ -211,7 +211,7 @@ note_done : {L : Type 0} (link_tells : L → LinkState) (ask : ProveAsk Bits) (n
     → ¬ Rose disk.old.faults disk.new.faults → (note.outcome ≡ ended.Accepted) ⊎ (note.outcome ≡ ended.NoMemory)
 note_done {L} link_tells ask note told disk door asked has honest calm = of_answer asked.holds.claim.answer refl
   where
-    held : IsNote link_tells asked.job asked.holds.claim note
+    held : IsProverNote link_tells asked.job asked.holds.claim note
     held = asked.holds.is_note
 
     completed : ((fault : ClaimFault) → asked.holds.claim.answer ≡ Some (Err fault) → ⊥) → (note.outcome ≡ ended.Accepted) ⊎ (note.outcome ≡ ended.NoMemory)

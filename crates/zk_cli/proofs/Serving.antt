@@ -20,7 +20,7 @@ use Rattle.lease_store.specs.declared.LeaseFault.{LeaseFault}
 use Rattle.session_core.specs.Jobs.{VerifierJob, VerifierJobs, all_jobs, job_at, noted_job}
 use Rattle.session_pool.specs.Notes.{granted_by}
 use Rattle.session_verifier.specs.Notes.{IsShown, TakesStatement}
-use Rattle.session_verifier.specs.Sessions.{IsSessionOf}
+use Rattle.session_verifier.specs.Sessions.{IsVerifierSession}
 use Rattle.zk_port.specs.Links.{LinkState}
 use Rattle.zk_port.specs.Shelves.{ShelfState}
 use Rattle.session_verifier.specs.declared.note.SessionNote.{SessionNote}
@@ -131,7 +131,7 @@ claim_job told service jobs served n within =
 
 shows_claim : ExtractedShowsOutputs → (told : Option Files) (service : Service) (jobs : VerifierJobs) → AreServeJobs told service jobs
     → (answer : Option (Result Span LeaseFault)) (taken : Option ℕ) (granted : Option Span) (outcome : VerifierOutcome) (log : List (Side × ℕ)) (link : LinkState)
-    → TakesStatement jobs taken answer outcome log → IsSessionOf (noted_job jobs taken) answer granted outcome log link → outcome ≡ Accepted
+    → TakesStatement jobs taken answer outcome log → IsVerifierSession (noted_job jobs taken) answer granted outcome log link → outcome ≡ Accepted
     → (n : ℕ) × (taken ≡ Some n) × (claim : NamedClaim) × (slice_get service.claims n ≡ Some claim) × IsHeadline told service claim granted log
 shows_claim law told service jobs served answer None granted outcome log link takes session accepted =
     let shown = session.shown accepted in

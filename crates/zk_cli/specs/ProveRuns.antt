@@ -24,9 +24,9 @@ use Rattle.claim_store.specs.Claims.{AreInUse, SaysClaims, first_met}
 use Rattle.dealer_files.specs.Faults.{IsDealtFile}
 use Rattle.session_core.specs.Jobs.{ProverJob, prover_from, prover_of}
 use Rattle.session_rehearsal.specs.Rehearsals.{IsWrongLength}
-use Rattle.session_prover.specs.Completing.{HasHonestPeer}
+use Rattle.session_prover.specs.Completing.{HasHonestVerifier}
 use Rattle.session_prover.specs.Notes.{IsGrantRead}
-use Rattle.session_prover.specs.Sessions.{IsNote}
+use Rattle.session_prover.specs.Sessions.{IsProverNote}
 use Rattle.session_prover.specs.Stages.{Claim}
 use Rattle.session_prover.specs.declared.note.ProverNote.{ProverNote}
 use Rattle.session_prover.specs.declared.note.ProverOutcome.{ProverOutcome}
@@ -133,7 +133,7 @@ ProveStop ask shelf disk door stop =
 pub record HoldsSession {L : Type 0} (link_tells : L → LinkState) (ask : ProveAsk Bits) (job : ProverJob) (note : ProverNote L)
     (disk : DiskChange) (door : DoorChange) : Type 0 where
   pub claim : Claim
-  pub is_note : IsNote link_tells job claim note
+  pub is_note : IsProverNote link_tells job claim note
   pub connected : door.new ≡ after_connect ask.address ask.timeout door.old
   pub kept : KeepsClaims (own_journal ask.file) job.file.id job.file.params.total claim.asked claim.answer disk
 
@@ -237,7 +237,7 @@ pub record IsWithHonestVerifier {L : Type 0} (link_tells : L → LinkState) (tol
     (note : ProverNote L) : Type 0 where
   pub calm : ¬ Rose 0 (link_tells note.link).faults
   pub honest : (circuit : Circuit) (job : ProverJob) → IsProveJob told ask circuit job
-      → (verifier : VerifierTask) × HasHonestPeer job (map from_bit ask.bits) verifier note.outcome note.log
+      → (verifier : VerifierTask) × HasHonestVerifier job (map from_bit ask.bits) verifier note.outcome note.log
   pub free : (circuit : Circuit) (job : ProverJob) → IsProveJob told ask circuit job
       → (given : Grant) → IsGrantRead job note.log given → (bytes : List ℕ) → disk.content ≡ Some bytes
       → (begin slots used : ℕ) (claims : List Span) → HoldsTwin Claims job.file.id job.file.params.total begin slots bytes

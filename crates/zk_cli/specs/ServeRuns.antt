@@ -25,7 +25,7 @@ use Rattle.session_pool.specs.Doors.{TakesLinks}
 use Rattle.session_pool.specs.Notes.{AreGrantsApart, IsBetween, IsMarked, IsRefusedAmong, TellsMark, faults_met}
 use Rattle.session_verifier.specs.Notes.{HasHonestCaller}
 use Rattle.session_verifier.specs.Outcomes.{lease_fault}
-use Rattle.session_verifier.specs.Sessions.{IsNote}
+use Rattle.session_verifier.specs.Sessions.{IsVerifierNote}
 use Rattle.session_verifier.specs.declared.note.SessionNote.{SessionNote}
 use Rattle.session_verifier.specs.declared.note.VerifierOutcome.TheVariants.{Accepted}
 use Rattle.command_words.specs.Commands.{named_options}
@@ -140,7 +140,7 @@ ServeStop service shelf disk door stop =
 pub record LeadsJobs {L : Type 0} (link_tells : L → LinkState) (service : Service) (jobs : VerifierJobs) (notes : List (SessionNote L))
     (door_failed memory_failed : Bool) (disk : DiskChange) (door : DoorChange) : Type 0 where
   pub few : TakeFewUnits jobs
-  pub each : All (IsNote link_tells jobs) notes
+  pub each : All (IsVerifierNote link_tells jobs) notes
   pub taken : TakesLinks service.options.sessions (length notes) door_failed memory_failed
       (after_listen service.address service.options.timeout service.options.sessions door.old) door.new
   pub base : ℕ

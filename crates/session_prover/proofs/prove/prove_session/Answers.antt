@@ -1,7 +1,7 @@
 use Rattle.std.proofs.Common.{rules, length, ap, sym, subst, ◌^◌, ◌≤◌, ◌∙◌, []}
 use Rattle.zk_model.specs.declared.Side.TheVariants.{Prover, Verifier}
 use Rattle.frame_link.specs.Lines.{LinkSnapshot, snapshot, snapshot_of}
-use Rattle.session_prover.specs.Stages.{Claim, IsSound}
+use Rattle.session_prover.specs.Stages.{Claim, IsSoundJob}
 use Rattle.session_driver.specs.Leaving.{HasCome}
 use Rattle.session_prover.specs.Notes.{HasEnded}
 use Rattle.zk_model.specs.Files.{IsProverFile}
@@ -16,7 +16,7 @@ abbrev claim_of : (g : Over) (c : goal.After-end-link g) → Claim
 claim_of g c = record { asked = g.C.Claimant.asked c.prove-course.new.claimant; answer = g.C.Claimant.answer c.prove-course.new.claimant }
 
 -- what is known of the job
-sound_of : (g : Over) (c : goal.After-end-link g) → IsSound c.args.job.now
+sound_of : (g : Over) (c : goal.After-end-link g) → IsSoundJob c.args.job.now
 sound_of g c = record {
   is = c.file.ensures.job;
   file = subst IsProverFile c.file.ensures.file c.total-total.ensures.file;

@@ -10,14 +10,14 @@ use Rattle.session_prover.specs.declared.proving.Proving.{Proving}
 use Rattle.session_prover.specs.Notes.{HasEnded}
 use Rattle.session_driver.specs.Leaving.{IsRun, PartyLeaves}
 use Rattle.session_driver.proofs.Left.{run_leaves}
-use Rattle.session_prover.specs.Stages.{Claims, IsProving, Proved, claim_of, claims_of, greeting_frame, proved, proves}
+use Rattle.session_prover.specs.Stages.{ClaimantTells, IsProving, Proved, told_claim, claimant_tells, greeting_frame, proved, proves}
 use Rattle.session_prover.proofs.Leading.{proving_first, session_ended, claim_ended}
 use Rattle.session_prover.proofs.proving.prove.Given.{Over}
 use Rattle.session_prover.proofs.proving.prove.Goals as goal
 
 -- a prover's end and the one who claims units, as definitions see them
-abbrev claims : (g : Over) → Claims g.row.C.Denot
-claims g = claims_of g.C.Claimant.asked g.C.Claimant.answer g.C.Claimant.total g.C.Claimant.moves
+abbrev claims : (g : Over) → ClaimantTells g.row.C.Denot
+claims g = claimant_tells g.C.Claimant.asked g.C.Claimant.answer g.C.Claimant.total g.C.Claimant.moves
 
 abbrev view : (g : Over) → Proving × g.row.C.Denot → Proved g.row.C.Denot
 view g s = proved s.0.core s.0.granted s.0.accepted s.1
@@ -49,7 +49,7 @@ returns g c =
     record {
       granted = claim.told;
       moved = claim.moved;
-      ends = subst (λ o. HasEnded job (claim_of (claims g) new.asked) (snapshot_of c.args.line.now) o (snapshot_of new.line)) (sym c.outcome_of.ensures)
+      ends = subst (λ o. HasEnded job (told_claim (claims g) new.asked) (snapshot_of c.args.line.now) o (snapshot_of new.line)) (sym c.outcome_of.ensures)
           (session_ended (claims g) old requires.unasked job requires.sound _ _ _ _ left);
       come = left.come;
       side = c.run-outcome.ensures.side ∙ c.requires.side;

@@ -13,7 +13,7 @@ use Rattle.zk_model.specs.Frames.{frame_spelling}
 use Rattle.proof_frames.specs.Frames.{frame_value as frame_said}
 use Rattle.session_core.specs.Jobs.{VerifierJob, IsVerifierJob, granted_from}
 use Rattle.session_core.specs.Judgements.{verdict_in, session_transcript, IsJudgement}
-use Rattle.session_rehearsal.specs.Holding.{AreRoundsHeld, IsSessionOf, ends_of}
+use Rattle.session_rehearsal.specs.Holding.{AreRoundsHeld, IsRehearsedSession, ends_of}
 use Rattle.session_core.specs.Rounds.{round_turns}
 use Rattle.session_core.proofs.Enough.{parts_within}
 use Rattle.session_core.proofs.Served.{AreRanged, served_is}
@@ -78,7 +78,7 @@ returns-clause-session c prover log stated dealt answered noted =
     coin (ap verdict_code frame_value) (ap verdict_number frame_value) in
     let at : AreRoundsHeld prover.file job.task.file (granted_from job 0) seen rounds =
     subst (λ (g : Grant). AreRoundsHeld prover.file job.task.file g seen rounds) grant answered.held.held in
-    subst (λ (v : Verdict). IsSessionOf (ends_of prover job) (granted_from job 0) v log) (sym frame_value)
+    subst (λ (v : Verdict). IsRehearsedSession (ends_of prover job) (granted_from job 0) v log) (sym frame_value)
     (session_is prover job 0 seen rounds d both macs judgement pairs log stated dealt.id
     (served_is job wanted 0 rounds d both macs judgement log is_stated (subst IsVerifierFile c.file.ensures.file c.total-total.ensures.file) is
     (wanted_fits job.task.file.id job.task.statement is_stated) granted at.served ranged found spells)

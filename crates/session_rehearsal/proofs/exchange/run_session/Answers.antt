@@ -3,7 +3,7 @@ use Rattle.zk_model.specs.declared.Params.{Params}
 use Rattle.session_core.specs.Ends.{whole_grant}
 use Rattle.zk_model.specs.Files.{AreDealt}
 use Rattle.session_core.specs.Jobs.{VerifierJob, granted_from, units_of_job, prover_from}
-use Rattle.session_rehearsal.specs.Holding.{IsSessionOf, ends_of, ends_with}
+use Rattle.session_rehearsal.specs.Holding.{IsRehearsedSession, ends_of, ends_with}
 use Rattle.session_rehearsal.proofs.Held.{units_of_pair}
 use Rattle.session_rehearsal.proofs.exchange.run_session.Goals as goal
 
@@ -38,10 +38,10 @@ returns-clause-session g c log noted =
     c.requires.dealt.params c.requires.granted in
     let prover = prover_from c.args.statement.now c.args.inputs.now c.args.prover_file in
     let made = c.new-verifier.ensures in
-    subst (λ n. IsSessionOf
+    subst (λ n. IsRehearsedSession
     (ends_with c.args.statement.now c.args.inputs.now c.args.prover_file c.args.verifier_file.now)
     (whole_grant n c.args.section) c.judge-exchange.result.verdict log) units
-    (subst (λ (j : VerifierJob). IsSessionOf (ends_of prover j) (granted_from j 0) c.judge-exchange.result.verdict log) made
+    (subst (λ (j : VerifierJob). IsRehearsedSession (ends_of prover j) (granted_from j 0) c.judge-exchange.result.verdict log) made
     (c.judge-exchange.ensures.session prover log
     (sym (ap (λ (j : VerifierJob). j.task.statement) made))
     (subst (λ (j : VerifierJob). AreDealt c.args.prover_file j.task.file) (sym made) c.requires.dealt)

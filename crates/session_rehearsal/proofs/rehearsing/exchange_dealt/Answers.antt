@@ -4,7 +4,7 @@ use Rattle.dealer_files.specs.Dealing.{dealt_prover, dealt_verifier}
 use Rattle.zk_model.specs.declared.Params.{Params}
 use Rattle.zk_model.specs.Transcript.{IsGrant}
 use Rattle.session_core.specs.Ends.{whole_grant}
-use Rattle.session_rehearsal.specs.Holding.{IsSessionOf, ends_with}
+use Rattle.session_rehearsal.specs.Holding.{IsRehearsedSession, ends_with}
 use Rattle.session_rehearsal.specs.Rehearsals.{rehearsed_params}
 use Rattle.session_rehearsal.proofs.Rehearsed.{granted_all, total_is}
 use Rattle.session_rehearsal.proofs.rehearsing.exchange_dealt.Goals as goal
@@ -23,10 +23,10 @@ returns-clause-held g c log noted =
     let prover = c.in_ok-prover.ensures.prover ∙ ap (λ (p : Params). dealt_prover p c.args.seed.now) params in
     let verifier = c.in_ok-prover.ensures.verifier ∙ ap (λ (p : Params). dealt_verifier p c.args.seed.now) params in
     let total = ap (λ (f : ProverFile). f.params.total) prover ∙ total_is c.args.kind c.args.units in
-    subst (λ (q : ProverFile × VerifierFile). IsSessionOf (ends_with c.args.statement.now c.args.inputs.now q.0 q.1)
+    subst (λ (q : ProverFile × VerifierFile). IsRehearsedSession (ends_with c.args.statement.now c.args.inputs.now q.0 q.1)
     (whole_grant c.args.units c.args.section) c.in_ok-exchange.exchange.verdict log)
     (λ i. (prover i, verifier i))
-    (subst (λ n. IsSessionOf (ends_with c.args.statement.now c.args.inputs.now c.in_ok-prover.prover c.in_ok-prover.verifier)
+    (subst (λ n. IsRehearsedSession (ends_with c.args.statement.now c.args.inputs.now c.in_ok-prover.prover c.in_ok-prover.verifier)
     (whole_grant n c.args.section) c.in_ok-exchange.exchange.verdict log) total (c.in_ok-exchange.ensures.session log noted))
 
 pub returns-clause-files : goal.returns-clause-files

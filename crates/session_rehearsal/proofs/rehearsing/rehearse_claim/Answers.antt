@@ -12,7 +12,7 @@ use Rattle.zk_model.specs.declared.Kind.{Kind}
 use Rattle.zk_model.specs.declared.Params.{Params}
 use Rattle.wire_auth.specs.Values.{given_made}
 use Rattle.session_core.specs.Ends.{whole_grant}
-use Rattle.session_rehearsal.specs.Holding.{BothEnds, IsSessionOf, ends_with, ends_from}
+use Rattle.session_rehearsal.specs.Holding.{BothEnds, IsRehearsedSession, ends_with, ends_from}
 use Rattle.session_rehearsal.specs.Rehearsals.{rehearsed_params, rehearsal_need, rehearsal_units}
 use Rattle.session_rehearsal.proofs.Rehearsed.{accepted_session, made_products, units_are, session_ends}
 use Rattle.session_rehearsal.proofs.rehearsing.rehearse_claim.Goals as goal
@@ -71,7 +71,7 @@ returns-clause-done g c circuit public inputs bits values claimed =
     let accepted = accepted_session circuit public inputs c.args.outputs bits c.args.kind c.args.section c.units_for-units.result c.args.seed.now
     c.in_ok-exchange.exchange.verdict c.in_ok-log.log c.bits_solve.ensures c.honest_session_is_accepted.ensures claimed.formed claimed.few claimed.met claimed.last
     c.in_ok-exchange.ensures.files
-    (subst (λ (ends : BothEnds). IsSessionOf ends (whole_grant c.units_for-units.result c.args.section) c.in_ok-exchange.exchange.verdict c.in_ok-log.log)
+    (subst (λ (ends : BothEnds). IsRehearsedSession ends (whole_grant c.units_for-units.result c.args.section) c.in_ok-exchange.exchange.verdict c.in_ok-log.log)
     (ends_are (dealt_prover (rehearsed_params c.args.kind c.units_for-units.result) c.args.seed.now)
     (dealt_verifier (rehearsed_params c.args.kind c.units_for-units.result) c.args.seed.now) c.statement-statement.result
     (circuit_statement circuit (replicate 32 0) public (drop (output_wire circuit 0) bits)) c.args.inputs.now (map from_bit inputs) bits statement values

@@ -1,13 +1,13 @@
 use Rattle.std.proofs.Common.{map, refl}
 use Rattle.std.specs.Prelude.{All}
 use Rattle.proof_frames.specs.Frames.{frame_value, IsShort}
-use Rattle.session_prover.specs.Stages.{Claims, IsProving, claims_of, proved}
+use Rattle.session_prover.specs.Stages.{ClaimantTells, IsProving, claimant_tells, proved}
 use Rattle.session_prover.proofs.Leading.{if_ok_more, on_ok_more, steps_there, steps_granted}
 use Rattle.session_prover.proofs.proving.ProvingParty.step.Given.{Over}
 use Rattle.session_prover.proofs.proving.ProvingParty.step.Goals as goal
 
-abbrev claims : (g : Over) → Claims g.row.C.Denot
-claims g = claims_of g.C.Claimant.asked g.C.Claimant.answer g.C.Claimant.total g.C.Claimant.moves
+abbrev claims : (g : Over) → ClaimantTells g.row.C.Denot
+claims g = claimant_tells g.C.Claimant.asked g.C.Claimant.answer g.C.Claimant.total g.C.Claimant.moves
 
 pub returns-then-answers-clause-short : goal.returns-then-answers-clause-short
 returns-then-answers-clause-short g c =
