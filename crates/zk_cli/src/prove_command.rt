@@ -1,13 +1,12 @@
 // `prove ADDRESS FILE CIRCUIT BITS OUTPUTS [--public BITS]`
 ghost use Rattle.std.specs.Prelude.{◌≡◌, ◌≤◌, ◌++◌, IfOk, IfErr, OnOk, None, IfSome, drop, length, string_bytes};
 ghost use Rattle.zk_model.specs.Circuit.{Circuit, AreWireBits, output_wire};
-ghost use Rattle.zk_model.specs.declared.Side.TheVariants.{Prover};
 ghost use Rattle.zk_port.specs.Changes.{change};
 ghost use Rattle.command_words.specs.Commands.{known_bits, prove_of};
 ghost use Rattle.file_commands.specs.Journals.{IsJournalDisk, disk_change};
 ghost use Rattle.zk_cli.specs.ProveRuns.{BeginningStop, HoldsAsked, HoldsSession, LacksProof, Proves, ProveStop};
 ghost use Rattle.zk_cli.specs.ProveRuns.{BitDiffersFirst, HasWitness, IsProveName, WiresStop, WitnessStop};
-ghost use Rattle.file_commands.specs.Stops.{connect_refusal, FileStop, IsProverFileAt};
+ghost use Rattle.file_commands.specs.Stops.{connect_refusal, IsProverFileAt};
 ghost use Rattle.file_commands.specs.Effects.{OnlyLoads, IsName, effects};
 
 use crate::finish::{Ending, Finish, Part, Ports};

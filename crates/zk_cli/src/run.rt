@@ -1,7 +1,7 @@
 // The top call.
-ghost use Rattle.std.specs.Prelude.{◌≡◌, ◌≢◌, ◌⊎◌, None, Some, true, false};
+ghost use Rattle.std.specs.Prelude.{◌≡◌, ◌⊎◌, None, Some, true, false};
 ghost use Rattle.zk_port.specs.Changes.{change};
-ghost use Rattle.command_words.specs.BitWords.{Bits, BitsAsk};
+ghost use Rattle.command_words.specs.BitWords.{BitsAsk};
 ghost use Rattle.command_words.specs.Commands.{IsWithinLimits, ask_of, bits_ask, known_bits};
 ghost use Rattle.command_words.specs.Forms.{IsReadAs};
 ghost use Rattle.command_words.specs.Words.{Ask, texts, asked};

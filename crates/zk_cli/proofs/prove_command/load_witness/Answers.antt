@@ -12,7 +12,6 @@ use Rattle.zk_model.specs.Statement.{Statement, circuit_statement}
 use Rattle.file_commands.specs.Stops.{IsLoaded}
 use Rattle.session_core.specs.Jobs.{prover_from, prover_of}
 use Rattle.session_rehearsal.proofs.Rehearsed.{witness_is}
-use Rattle.zk_cli.proofs.prove_command.load_witness.Given.{Over}
 use Rattle.zk_cli.proofs.prove_command.load_witness.Goals as goal
 
 pub new-requires-clause-digest : goal.new-requires-clause-digest

@@ -1,4 +1,4 @@
-use Rattle.std.proofs.Common.{◌≡◌, ℕ, List, Some, IfSome, All, length, sym, ap, ◌∙◌, subst, refl}
+use Rattle.std.proofs.Common.{◌≡◌, ℕ, List, Some, IfSome, All, length, ap, ◌∙◌, subst, refl}
 use Rattle.zk_model.specs.Files.{VerifierFile}
 use Rattle.zk_port.specs.Changes.{change}
 use Rattle.zk_port.specs.Doors.{DoorState, after_listen}
