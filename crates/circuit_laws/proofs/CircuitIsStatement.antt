@@ -24,6 +24,7 @@ circuit_is_statement circuit digest public outputs formed named few counted = re
   program = circuit_is_program (length public) circuit formed few;
   public_count = length-map public from_bit;
   public = All-map IsElement from_bit public (λ n d below. bit_element _);
+  may_be_public = tt;
   claim_count = length-map outputs from_bit ∙ counted ∙ sym (length-map-range_with_len (output_wire circuit) 0 circuit.outputs);
   claims = All-map IsElement from_bit outputs (λ n d below. bit_element _);
   circuit = named;

@@ -1,12 +1,12 @@
 -- What public values and private inputs make: there is one list of given values, and bits of a circuit's wires are made.
-use Rattle.std.proofs.Common.{◌≡◌, ℕ, zero, suc, ◌+◌, ◌*◌, ◌-◌, ◌%◌, ◌<◌, ◌≤◌, ⊎_elim, inl, inr, Bool, List, map, take, drop, length, sym, ◌∙◌, ap, subst, arith}
+use Rattle.std.proofs.Common.{◌≡◌, ℕ, zero, suc, ◌+◌, ◌*◌, ◌-◌, ◌%◌, ◌<◌, ◌≤◌, ⊎_elim, inl, inr, List, map, drop, length, sym, ◌∙◌, ap, subst, arith}
 use Rattle.std.specs.Prelude.{Some, All, get_or, slice_get, slice_index}
 use Rattle.std.proofs.lemmas.Bool.{cases_lt}
 use Rattle.std.proofs.lemmas.List.{length-map, get_or-take, ext_get_or}
 use Rattle.std.proofs.lemmas.Option.{slice_get_within, get_or_from_slice_get}
 use Rattle.zk_model.specs.Bits.{from_bit}
 use Rattle.zk_model.specs.Field.{prime, ◌*ₚ◌}
-use Rattle.zk_model.specs.Program.{Term, Step, Program, Multiplies, IsProgram, IsProduct, IsSet, IsMadeBefore, IsOrdered, AreMade, step_value}
+use Rattle.zk_model.specs.Program.{Term, Program, Multiplies, IsProgram, IsProduct, IsSet, IsMadeBefore, IsOrdered, AreMade}
 use Rattle.zk_model.specs.Boolean.{once, private_inputs}
 use Rattle.circuit_laws.specs.Circuits.{OneMade, BitsAreMade}
 use Rattle.circuit_laws.proofs.Programs.{weighted_same}

@@ -1,11 +1,10 @@
 -- No step of a circuit's program takes the value of a product before its factors are set.
-use Rattle.std.proofs.Common.{◌≡◌, ℕ, ◌<◌, ◌≤◌, List, [], ◌∷◌, map, refl, sym, ap, ◌∙◌, subst, lit<}
+use Rattle.std.proofs.Common.{◌≡◌, ℕ, List, [], map, refl, sym, ap, ◌∙◌, subst, lit<}
 use Rattle.std.specs.Prelude.{Some, All, slice_get, get_or}
 use Rattle.std.specs.List.{range_with_len}
 use Rattle.std.proofs.lemmas.List.Elements.{All-nil, All-cons}
 use Rattle.std.proofs.lemmas.Option.{slice_get-get_or, same_Some}
-use Rattle.zk_model.specs.Circuit as boolean
-use Rattle.zk_model.specs.Circuit.{Circuit, wires_read}
+use Rattle.zk_model.specs.Circuit.{wires_read}
 use Rattle.zk_model.specs.Program.{Term, Step, Program, IsSet, IsMadeBefore}
 use Rattle.zk_model.specs.Boolean.{once, less_twice, gate_step, gate_products, given_of_gate, circuit_products, circuit_program}
 use Rattle.circuit_laws.specs.Circuits.{CircuitIsOrdered}

@@ -6,7 +6,7 @@ use Rattle.std.proofs.lemmas.List.{take-set-le}
 use Rattle.std.proofs.lemmas.List.Sums.{sum_by-cons}
 use Rattle.std.proofs.lemmas.List.Elements.{All-tail}
 use Rattle.zk_model.specs.Field.{prime}
-use Rattle.zk_model.proofs.SetWires.{set_later, set_below, sets_own}
+use Rattle.zk_model.proofs.SetWires.{set_later, sets_own}
 use Rattle.zk_model.specs.Program.{Term, Step, Program, IsSet, IsProgram, weighted, step_value, MeetsStep}
 
 -- ---- what a step makes of its wires

@@ -15,3 +15,5 @@ pub mod Answered
 pub mod CircuitProved
 pub mod OfBoth
 pub mod OutputsShown
+pub mod ArithProved
+pub mod ElementsShown

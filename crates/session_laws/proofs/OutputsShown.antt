@@ -9,7 +9,7 @@ use Rattle.zk_laws.specs.Extraction.{Shows}
 use Rattle.zk_model.specs.Bits.{from_bit}
 use Rattle.zk_model.specs.Circuit.{Circuit, Satisfies, IsWellFormed}
 use Rattle.zk_model.specs.Finding.{Finding, found_inputs, found_challenge_root, found_key_root}
-use Rattle.zk_model.specs.Headline.{AreSatisfyingBits, SaysOutputs}
+use Rattle.zk_model.specs.Headline.{AreSatisfyingBits, SaysInputs}
 use Rattle.zk_model.specs.Statement.{circuit_statement}
 use Rattle.zk_model.specs.Transcript.{Transcript}
 
@@ -27,7 +27,7 @@ by_inputs circuit public outputs inputs bits = record {
 by_finding : (circuit : Circuit) (digest : List ℕ) (public outputs : List Bool) (key : ℕ) (t : Transcript) (finding : Finding)
     → IsWellFormed circuit → length public ≤ circuit.inputs
     → Shows (circuit_statement circuit digest public outputs) t.commitment.setup.grant.section_length t.challenge key finding
-    → SaysOutputs circuit public outputs key (circuit_statement circuit digest public outputs) t finding
+    → SaysInputs (AreSatisfyingBits circuit public outputs) key (circuit_statement circuit digest public outputs) t finding
 by_finding circuit digest public outputs key t (found_inputs inputs) formed few shows = by_inputs circuit public outputs inputs
     (found_bits circuit digest public outputs t.commitment.setup.grant.section_length t.challenge key (found_inputs inputs) formed few shows)
 by_finding circuit digest public outputs key t (found_challenge_root s errors) formed few shows = shows

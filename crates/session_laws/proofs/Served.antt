@@ -1,6 +1,6 @@
 -- A verifier can serve a session, whatever the prover fixes in it: by the verifier's keys some sums and openings meet its
 -- equations.
-use Rattle.std.proofs.Common.{◌≡◌, ℕ, zero, suc, ◌+◌, ◌-◌, ◌*◌, ◌%◌, ◌^◌, ◌<◌, ◌≤◌, List, [], map, zip, flat_map, length, slice_index, sym, ◌∙◌, ap, arith, length-append, refl, zero-add}
+use Rattle.std.proofs.Common.{◌≡◌, ℕ, zero, suc, ◌+◌, ◌-◌, ◌*◌, ◌%◌, ◌^◌, ◌<◌, List, [], map, zip, flat_map, length, slice_index, sym, ◌∙◌, ap, arith, length-append, refl, zero-add}
 use Rattle.std.specs.Prelude.{All}
 use Rattle.std.specs.List.{range_with_len}
 use Rattle.std.proofs.lemmas.List.{length-map}
@@ -25,7 +25,6 @@ use Rattle.circuit_laws.proofs.Unique.{set_element}
 use Rattle.session_laws.specs.Serving.{ServedSessionExists}
 use Rattle.zk_model.specs.declared.Kind.{Kind}
 use Rattle.zk_model.specs.declared.Kind.TheVariants.{Direct, Extended}
-use Rattle.zk_model.specs.declared.Params.{Params}
 use Rattle.zk_model.specs.declared.Verdict.TheVariants.{Accepted}
 
 -- ---- as many keys as a session takes

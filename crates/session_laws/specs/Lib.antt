@@ -4,3 +4,4 @@ pub mod Rounds
 pub mod Peers
 pub mod Sessions
 pub mod Circuits
+pub mod Ariths

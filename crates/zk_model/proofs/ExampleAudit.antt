@@ -6,13 +6,14 @@ use Rattle.sha2.specs.Sha256.{sha256, digest_bytes, hash_after, compress, rounds
 use Rattle.zk_model.proofs.ExampleTools.{each_item}
 use Rattle.std.specs.Prelude.{Some, None}
 use Rattle.zk_model.proofs.ExampleFiles.{direct}
-use Rattle.zk_model.proofs.ExamplePrograms.{and_circuit, and_program}
+use Rattle.zk_model.proofs.ExamplePrograms.{and_circuit}
 use Rattle.zk_model.proofs.ExampleSession.{prover, verifier, statement, hello_fits, session, in_order, the_challenge, keys, carried, sections_hold, openings_hold, found}
 use Rattle.zk_model.specs.Circuit.{MeetsGate}
 use Rattle.zk_model.specs.Transcript.{Hello, wanted_hello, spelling}
 use Rattle.zk_model.specs.Frames.{hello, frame_spelling}
 use Rattle.zk_model.specs.Finding.{found_inputs}
 use Rattle.zk_model.specs.ServedVerifier.{VerifierTask}
+use Rattle.zk_model.specs.Headline.{AreSatisfyingBits}
 use Rattle.zk_model.specs.Audit.{session_frames, frames_spelling, bytes_in, place_after, AreFaultless, IsAcceptedLog, IsFoundIn, EndsEarly, HasFaultAt}
 use Rattle.zk_model.specs.declared.Expect.TheVariants as expect
 
@@ -27,7 +28,7 @@ unfolding sha256 digest_bytes hash_after compress rounds schedule first_words
 frames_spell = refl
 
 -- the places of all frames, and none behind them
-places : map (λ n. place_after direct and_program (take n (session_frames session))) (0 ∷ 1 ∷ 2 ∷ 3 ∷ 4 ∷ 5 ∷ 6 ∷ 7 ∷ [])
+places : map (λ n. place_after direct statement (take n (session_frames session))) (0 ∷ 1 ∷ 2 ∷ 3 ∷ 4 ∷ 5 ∷ 6 ∷ 7 ∷ [])
     ≡ Some expect.Hello ∷ Some expect.Grant ∷ Some (expect.Corrections 3) ∷ Some expect.Challenge ∷ Some (expect.Sums 1)
     ∷ Some (expect.Openings 1) ∷ Some expect.Verdict ∷ None ∷ []
 places = refl
@@ -46,7 +47,7 @@ accepted = record {
 }
 
 -- both inputs are 1
-audited : IsFoundIn and_circuit [] (true ∷ []) prover task (bytes_in (spelling session)) (found_inputs (1 ∷ 1 ∷ []))
+audited : IsFoundIn (AreSatisfyingBits and_circuit [] (true ∷ [])) prover task (bytes_in (spelling session)) (found_inputs (1 ∷ 1 ∷ []))
 audited = record {
   t = session;
   accepted = accepted;

@@ -1,5 +1,5 @@
 -- Frames at worked examples, by computation.
-use Rattle.std.proofs.Common.{◌≡◌, ◌++◌, true, [], ◌∷◌, flat_map, refl, replicate, length, take}
+use Rattle.std.proofs.Common.{◌≡◌, true, [], ◌∷◌, flat_map, refl, replicate, length, take}
 use Rattle.std.specs.Prelude.{Some, None}
 use Rattle.zk_model.specs.Transcript.{Hello, Transcript, hello_frame, ask_frame, reply_frame, challenge_frame, corrections_frame, spelling, setup_turns, session_turns, turn_bytes}
 

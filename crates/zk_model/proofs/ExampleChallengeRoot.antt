@@ -8,6 +8,7 @@ use Rattle.zk_model.proofs.ExampleTools.{one_only, bytes_of, empty_digest_fits, 
 use Rattle.zk_model.proofs.ExampleProducts.{prover, verifier, dealt, pair, setup, seen}
 use Rattle.zk_model.specs.Field.{IsElement}
 use Rattle.zk_model.specs.Program.{Program, IsProduct, IsMadeOnce, IsSetInAll, IsProgram, MeetsStep}
+use Rattle.zk_model.specs.declared.StatementKind.TheVariants.{Boolean}
 use Rattle.zk_model.specs.Statement.{Statement, IsStatement}
 use Rattle.zk_model.specs.Transcript.{Transcript}
 use Rattle.zk_model.specs.Check.{WireKeys, SectionHolds}
@@ -55,13 +56,14 @@ twice_is_program = record {
 }
 
 abbrev statement : Statement
-statement = record { program = twice; public = []; claims = []; circuit = replicate 32 2; outputs = replicate 32 3; public_digest = sha256 [] }
+statement = record { kind = Boolean; program = twice; public = []; claims = []; circuit = replicate 32 2; outputs = replicate 32 3; public_digest = sha256 [] }
 
 stated : IsStatement statement
 stated = record {
   program = twice_is_program;
   public_count = refl;
   public = All-nil IsElement;
+  may_be_public = tt;
   claim_count = refl;
   claims = All-nil IsElement;
   circuit = bytes_of 32 2 (lit< tt);

@@ -7,6 +7,7 @@ use Rattle.zk_model.proofs.ExampleFiles.{direct, prover_file_of, verifier_file_o
 use Rattle.zk_model.proofs.ExamplePrograms.{takes_given, multiply, multiply_is_program}
 use Rattle.zk_model.specs.Field.{IsElement}
 use Rattle.zk_model.specs.Program.{MeetsStep}
+use Rattle.zk_model.specs.declared.StatementKind.TheVariants.{Boolean}
 use Rattle.zk_model.specs.Statement.{Statement, IsStatement}
 use Rattle.zk_model.specs.Mac.{Pair, corrected_pairs, corrected_keys}
 use Rattle.zk_model.specs.Files.{ProverFile, VerifierFile, AreDealt}
@@ -37,6 +38,7 @@ files_dealt = are_dealt direct 8 0 prover.units verifier.units (record { keys = 
 -- that the opened product is this
 abbrev pub claiming : ℕ → Statement
 claiming claim = record {
+  kind = Boolean;
   program = multiply;
   public = [];
   claims = claim ∷ [];
@@ -50,6 +52,7 @@ stated claim element = record {
   program = multiply_is_program;
   public_count = refl;
   public = All-nil IsElement;
+  may_be_public = tt;
   claim_count = refl;
   claims = All-from_recursion IsElement (claim ∷ []) (element, tt);
   circuit = bytes_of 32 2 (lit< tt);

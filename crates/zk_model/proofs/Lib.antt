@@ -17,5 +17,6 @@ pub mod ExampleRound
 pub mod ExampleFound
 pub mod ExampleExtendedSession
 pub mod ExampleAudit
+pub mod ExampleArith
 pub mod SetWires
 pub mod Octets

@@ -1,9 +1,9 @@
 -- What the log of a session proves to one who has both dealt files. A log is bytes here, without their sides: it is read frame by
 -- frame, and each frame is judged by the files, the statement and the frames before it.
-use Rattle.std.specs.Prelude.{◌≡◌, ◌≢◌, ◌⊎◌, ℕ, ◌+◌, ◌-◌, ◌<◌, Bool, Option, Some, None, List, [], ◌∷◌, ◌++◌, map, flat_map, take, length, slice_get}
+use Rattle.std.specs.Prelude.{◌≡◌, ◌≢◌, ◌⊎◌, ℕ, ◌+◌, ◌-◌, ◌<◌, Option, Some, None, List, [], ◌∷◌, ◌++◌, map, flat_map, take, length, slice_get}
 use Rattle.std.specs.List.{range_with_len}
 use Rattle.zk_model.specs.Program.{Program, section_count}
-use Rattle.zk_model.specs.Circuit.{Circuit}
+use Rattle.zk_model.specs.Statement.{Statement}
 use Rattle.zk_model.specs.Files.{ProverFile, rounds_of}
 use Rattle.zk_model.specs.Transcript.{Hello, Grant, TreeAsk, TreeReply, Round, Setup, Transcript, IsHelloFor, IsGrant, BeginsWith, spelling}
 use Rattle.zk_model.specs.Frames.{Frame, hello, grant, asks, replies, corrections, challenge, sums, openings, verdict, refuse, frame_spelling, Allows, IsWhole, CanGoOn, IsFirstBad}
@@ -11,11 +11,13 @@ use Rattle.zk_model.specs.Replies.{unit_reply}
 use Rattle.zk_model.specs.View.{IsVerdict}
 use Rattle.zk_model.specs.ServedVerifier.{VerifierTask, challenge_coin, IsServed}
 use Rattle.zk_model.specs.Finding.{Finding, IsFinding}
-use Rattle.zk_model.specs.Headline.{SaysOutputs}
+use Rattle.zk_model.specs.Headline.{SaysInputs}
 use Rattle.zk_model.specs.declared.Expect.{Expect}
 use Rattle.zk_model.specs.declared.Expect.TheVariants as expect
 use Rattle.zk_model.specs.declared.Params.{Params}
 use Rattle.zk_model.specs.declared.Side.{Side}
+use Rattle.zk_model.specs.declared.StatementKind.{StatementKind}
+use Rattle.zk_model.specs.declared.StatementKind.TheVariants.{Boolean, Arithmetic}
 use Rattle.zk_model.specs.declared.Verdict.{Verdict}
 use Rattle.zk_model.specs.declared.Verdict.TheVariants.{Accepted}
 
@@ -67,14 +69,19 @@ places_behind params program given =
     ∷ expect.Verdict
     ∷ []
 
+-- the place of a hello: about a Boolean circuit it may be of either form
+abbrev pub hello_place : StatementKind → Expect
+hello_place Boolean = expect.Hello
+hello_place Arithmetic = expect.ShortHello
+
 -- The place of the next frame: of a hello, of a grant, and then those that the grant leaves. There is none after a verdict, nor
 -- after a refusal.
-abbrev pub place_after : Params → Program → List Frame → Option Expect
-place_after params program [] = Some expect.Hello
-place_after params program (first ∷ []) = Some expect.Grant
-place_after params program (first ∷ grant given ∷ behind) =
-    slice_get (places_behind params program given) (length behind)
-place_after params program (first ∷ other ∷ behind) = None
+abbrev pub place_after : Params → Statement → List Frame → Option Expect
+place_after params statement [] = Some (hello_place statement.kind)
+place_after params statement (first ∷ []) = Some expect.Grant
+place_after params statement (first ∷ grant given ∷ behind) =
+    slice_get (places_behind params statement.program given) (length behind)
+place_after params statement (first ∷ other ∷ behind) = None
 
 -- ---- what frames are given
 
@@ -129,7 +136,7 @@ pub record IsPlaced
     (before : List Frame)
     (place : Expect)
     (frame : Frame) : Type 0 where
-  pub place_is : place_after task.file.params task.statement.program before ≡ Some place
+  pub place_is : place_after task.file.params task.statement before ≡ Some place
   pub allowed : Allows place frame
 
 -- a frame stands at its place, and is given
@@ -176,7 +183,7 @@ pub record HasFaultAt (task : VerifierTask) (log : List ℕ) (place : ℕ) : Typ
   pub rest : List ℕ
   pub read : IsReadAs task log frames rest
   pub n : ℕ
-  pub fault : IsBadAt (place_after task.file.params task.statement.program frames) rest n
+  pub fault : IsBadAt (place_after task.file.params task.statement frames) rest n
       ⊎ IsWrongAt task frames rest n
   pub at : place ≡ length (frames_spelling frames) + n
 
@@ -188,7 +195,7 @@ pub record EndsEarly (task : VerifierTask) (log : List ℕ) : Type 0 where
   pub rest : List ℕ
   pub read : IsReadAs task log frames rest
   pub place : Expect
-  pub place_is : place_after task.file.params task.statement.program frames ≡ Some place
+  pub place_is : place_after task.file.params task.statement frames ≡ Some place
   pub begun : CanGoOn place rest
   pub unfinished : (frame : Frame) → ¬ IsWhole place rest frame
 
@@ -223,10 +230,9 @@ pub record IsAcceptedLog (task : VerifierTask) (log : List ℕ) (t : Transcript)
   pub served : IsServed task t Accepted (spelling t)
   pub bytes : log ≡ bytes_in (spelling t)
 
--- The log is that of an accepted session, and this its finding, with what that says of the circuit's outputs.
+-- The log is that of an accepted session, and this its finding, with what that says of inputs.
 pub record IsFoundIn
-    (circuit : Circuit)
-    (public outputs : List Bool)
+    (Satisfy : List ℕ → Type 0)
     (prover : ProverFile)
     (task : VerifierTask)
     (log : List ℕ)
@@ -234,4 +240,4 @@ pub record IsFoundIn
   pub t : Transcript
   pub accepted : IsAcceptedLog task log t
   pub found : IsFinding prover task.statement t finding
-  pub says : SaysOutputs circuit public outputs task.file.key task.statement t finding
+  pub says : SaysInputs Satisfy task.file.key task.statement t finding

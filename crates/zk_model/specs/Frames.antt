@@ -1,5 +1,5 @@
 -- Frames as values, the places of a session where they may come, and what is wrong with bytes that begin none.
-use Rattle.std.specs.Prelude.{◌≡◌, ◌⊎◌, ℕ, ◌+◌, ◌*◌, ◌-◌, ◌^◌, ◌<◌, ◌≤◌, if◌then◌else◌, nat_eq, List, [], ◌∷◌, length, take, All}
+use Rattle.std.specs.Prelude.{◌≡◌, ◌⊎◌, None, ℕ, ◌+◌, ◌*◌, ◌-◌, ◌^◌, ◌<◌, ◌≤◌, if◌then◌else◌, nat_eq, List, [], ◌∷◌, length, take, All}
 use Rattle.zk_model.specs.Field.{IsElement}
 use Rattle.zk_model.specs.Transcript.{Hello, Grant, TreeAsk, TreeReply, IsHello, IsTreeAsk, IsTreeReply, BeginsWith, hello_frame, grant_frame, ask_frame, reply_frame, corrections_frame, challenge_frame, sums_frame, openings_frame, verdict_frame, refuse_frame}
 use Rattle.zk_model.specs.declared.Expect.{Expect}
@@ -74,10 +74,11 @@ pub record FitsRefusal (code : ℕ) : Type 0 where
   pub least : 1 ≤ code
   pub most : code ≤ 4
 
--- The frames that a place allows: a greeting whatever it names, a grant of any numbers or a refusal in its place, asks
--- or replies for so many trees of one height, so many elements, a verdict.
+-- The frames that a place allows: a greeting whatever it names, or one without a digest of public bits; a grant of any numbers or a
+-- refusal in its place; asks or replies for so many trees of one height; so many elements; a verdict.
 abbrev pub Allows : Expect → Frame → Type 0
 Allows expect.Hello frame = (said : Hello) × (frame ≡ hello said) × IsHello said
+Allows expect.ShortHello frame = (said : Hello) × (frame ≡ hello said) × IsHello said × (said.public ≡ None)
 Allows expect.Grant frame =
     ((given : Grant) × (frame ≡ grant given) × FitsGrant given)
     ⊎ ((code : ℕ) × (frame ≡ refuse code) × FitsRefusal code)
@@ -120,6 +121,7 @@ abbrev pub frame_length : Expect → List ℕ → ℕ
 frame_length expect.Hello [] = 2
 frame_length expect.Hello (first ∷ []) = 2
 frame_length expect.Hello (first ∷ low ∷ bytes) = if nat_eq low 129 then LONG_HELLO_LENGTH else HELLO_LENGTH
+frame_length expect.ShortHello bytes = HELLO_LENGTH
 frame_length expect.Grant [] = 1
 frame_length expect.Grant (first ∷ bytes) = if nat_eq first 10 then 6 else 21
 frame_length (expect.Ask height trees left) bytes = 5 + trees * (height + 8)
@@ -137,6 +139,7 @@ bytes_wanted place bytes = frame_length place bytes - length bytes
 -- the kind of frame that is expected after these bytes: in a grant's place a refusal where they begin one
 abbrev pub expected_kind : Expect → List ℕ → FrameKind
 expected_kind expect.Hello bytes = kind.Hello
+expected_kind expect.ShortHello bytes = kind.Hello
 expected_kind expect.Grant [] = kind.Grant
 expected_kind expect.Grant (first ∷ bytes) = if nat_eq first 10 then kind.Refuse else kind.Grant
 expected_kind (expect.Ask height trees left) bytes = kind.ExtendAsk

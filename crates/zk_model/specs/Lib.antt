@@ -17,6 +17,10 @@ pub mod Bytes
 pub mod Coins
 pub mod Tree
 pub mod Extension
+pub mod Arithmetic
+pub mod ArithTexts
+pub mod ArithFaults
+pub mod ArithProgram
 pub mod Statement
 pub mod Files
 pub mod FileBytes

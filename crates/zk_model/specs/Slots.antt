@@ -60,11 +60,13 @@ pub record Plan : Type 0 where
   pub steps : List StepSlots
   pub opened : List ℕ
 
--- Where each wire has a place, a step has those of the wire that it sets, and of the one wire of its equation or of both factors of the
--- product whose value it takes.
+-- Where each wire has a place, a step has those of the wire that it sets, and of the one wire or both wires of its equation, or of both
+-- factors of the product whose value it takes.
 pub record AreSlotsOf (program : Program) (places : List ℕ) (step : Step) (slots : StepSlots) : Type 0 where
   pub out : slots.out ≡ slice_index places step.out
   pub one : (term : Term) → step.wires ≡ term ∷ [] → slots.a ≡ slice_index places term.place
+  pub both : (left right : Term) → step.wires ≡ left ∷ right ∷ []
+      → (slots.a ≡ slice_index places left.place) × (slots.b ≡ slice_index places right.place)
   pub factors : (term : Term) (product : Product) → Contains step.given term → Contains program.products product → product.c ≡ term.place
       → (slots.a ≡ slice_index places product.a) × (slots.b ≡ slice_index places product.b)
 

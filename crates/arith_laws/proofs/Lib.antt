@@ -1,0 +1,5 @@
+pub mod Ordering
+pub mod OneList
+pub mod Solved
+pub mod Formed
+pub mod Stated
