@@ -10,7 +10,8 @@ use Rattle.zk_model.specs.declared.ReadFault.{ReadFault}
 use Rattle.zk_model.specs.declared.ReadFault.TheVariants.{OutputUnset}
 use Rattle.bristol_reader.specs.declared.header.Header.{Header}
 use Rattle.bristol_reader.specs.declared.fault.ReadError.TheVariants.{Fault}
-use Rattle.bristol_reader.specs.Words.{Place, Takes, place_of, left_of}
+use Rattle.zk_model.specs.ArithFaults.{Place}
+use Rattle.text_tokens.specs.Words.{Takes, place_of, left_of}
 use Rattle.bristol_reader.specs.Wants.{next_fault, IsFaultBehind}
 use Rattle.bristol_reader.specs.Headers.{IsHeader, TakesHeader}
 use Rattle.bristol_reader.specs.Gates.{AreFlags, FitsFlags, IsGateFault}

@@ -12,7 +12,9 @@ use Rattle.bristol_reader.specs.declared.wants.BinaryGate.TheVariants as pair
 use Rattle.bristol_reader.specs.declared.wants.UnaryGate.{UnaryGate}
 use Rattle.bristol_reader.specs.declared.wants.UnaryGate.TheVariants as single
 use Rattle.bristol_reader.specs.declared.wants.Placed.{Placed}
-use Rattle.bristol_reader.specs.Words.{greatest, Place, Takes}
+use Rattle.zk_model.specs.ArithFaults.{Place}
+use Rattle.text_tokens.specs.Words.{Takes}
+use Rattle.bristol_reader.specs.Words.{greatest}
 use Rattle.bristol_reader.specs.Wants.{next_fault, IsFaultBehind, TakesNumber, IsPlaced, pair_text, single_text, inputs_of}
 use Rattle.bristol_reader.specs.Gates.{flag_of, FitsFlags, MayBeInput, pair_gate, single_gate, IsWrongPair, IsWrongSingle, IsGateFault, BehindNumbers}
 use Rattle.bristol_reader.proofs.Lists.{takes_both, takes_same, fault_here}

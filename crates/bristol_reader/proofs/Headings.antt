@@ -6,7 +6,8 @@ use Rattle.zk_model.specs.Bristol.{Lexeme, number, counted_lexemes, Values}
 use Rattle.bristol_reader.specs.TextFaults.{Want, a_count, HeaderWants, first_number, second_number, a_list, one_size, IsStart, start_lexemes}
 use Rattle.zk_model.specs.declared.ReadFault.{ReadFault}
 use Rattle.bristol_reader.specs.declared.header.Header.{Header}
-use Rattle.bristol_reader.specs.Words.{Place, Takes}
+use Rattle.zk_model.specs.ArithFaults.{Place}
+use Rattle.text_tokens.specs.Words.{Takes}
 use Rattle.bristol_reader.specs.Wants.{next_fault, IsFaultBehind}
 use Rattle.bristol_reader.specs.Headers as headers
 use Rattle.bristol_reader.specs.Headers.{ListWants, TakesList, TakesHeader}

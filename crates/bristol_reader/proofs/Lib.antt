@@ -11,7 +11,6 @@ pub mod Orders
 pub mod Outcome
 pub mod PlainLines
 pub mod SetOutcome
-pub mod Splitting
 pub mod Wanted
 pub mod Wires
 pub mod ExampleFaults

@@ -4,7 +4,8 @@ use Rattle.std.proofs.lemmas.List.Sums.{sum_by-cons}
 use Rattle.zk_model.specs.Bristol.{Lexeme, number, counted_lexemes}
 use Rattle.bristol_reader.specs.TextFaults.{Want, a_count, a_size, first_lexeme_fault}
 use Rattle.zk_model.specs.declared.ReadFault.{ReadFault}
-use Rattle.bristol_reader.specs.Words.{Place, Takes}
+use Rattle.zk_model.specs.ArithFaults.{Place}
+use Rattle.text_tokens.specs.Words.{Takes}
 use Rattle.bristol_reader.specs.Wants.{next_fault, IsFaultBehind}
 use Rattle.bristol_reader.specs.Headers.{ListWants, the_number, one_size, TakesList}
 

@@ -1,63 +1,30 @@
 -- Lines of gates that are read at once.
-use Rattle.std.proofs.Common.{◌≡◌, Bor, ℕ, ◌+◌, ◌-◌, ◌^◌, ◌<◌, ◌≤◌, Bool, true, false, List, [], ◌∷◌, ◌++◌, map, length, take, drop, get_or, refl, ap, sym, ◌∙◌, subst, arith, length-append, length-take, length-drop, append_assoc}
-use Rattle.std.specs.Prelude.{min, codes, Result, Ok, Err, IfOk, IfErr}
-use Rattle.std.proofs.lemmas.List.Elements.{All-from_recursion}
+use Rattle.std.proofs.Common.{◌≡◌, Bor, ℕ, ◌+◌, ◌^◌, ◌≤◌, Bool, true, false, List, [], ◌∷◌, ◌++◌, map, length, take, drop, get_or, refl, ap, sym, ◌∙◌, subst, arith, length-append, length-take, append_assoc}
+use Rattle.std.specs.Prelude.{codes, Result, Ok, Err, IfOk, IfErr}
+use Rattle.std.proofs.lemmas.List.Elements.{All-nil, All-cons, All-from_recursion}
 use Rattle.std.specs.Str.{bytes_eq}
 use Rattle.std.proofs.lemmas.List.{take-append-drop}
-use Rattle.std.proofs.Math.Nat.{pow-le-pow_right}
 use Rattle.std.proofs.lemmas.Slice.Eq.{bytes_eq-Decides}
 use Rattle.zk_model.specs.Bristol.{Lexeme, number, name, is_blank, tokens, lexeme, lexemes, gate_lexemes}
 use Rattle.bristol_reader.specs.declared.lines.PairLine.{PairLine}
 use Rattle.bristol_reader.specs.declared.lines.SingleLine.{SingleLine}
-use Rattle.bristol_reader.specs.declared.tokens.Word.TheVariants.{Number}
 use Rattle.bristol_reader.specs.declared.wants.BinaryGate.{BinaryGate}
 use Rattle.bristol_reader.specs.declared.wants.UnaryGate.{UnaryGate}
 use Rattle.bristol_reader.specs.declared.wants.Placed.{Placed}
 use Rattle.bristol_reader.specs.declared.wants.BinaryGate.TheVariants.{And, Xor}
 use Rattle.bristol_reader.specs.declared.wants.UnaryGate.TheVariants.{Inv, Eq, Eqw}
-use Rattle.bristol_reader.specs.Words.{greatest, left_of, Place, place_of, Takes}
+use Rattle.zk_model.specs.ArithFaults.{Place}
+use Rattle.text_tokens.specs.Words.{left_of, place_of, Takes}
 use Rattle.bristol_reader.specs.Wants.{IsPlaced, TakesNumber, inputs_of, pair_text, single_text}
-use Rattle.bristol_reader.specs.Scans.{IsEnded}
-use Rattle.bristol_reader.specs.Lines.{IsWord, StartsGate, StartsNumber, StartsName, IsPairLine, IsSingleLine}
+use Rattle.text_tokens.specs.Scans.{StartsNumber}
+use Rattle.bristol_reader.specs.Lines.{IsWord, StartsGate, StartsName, IsPairLine, IsSingleLine}
 use Rattle.bristol_reader.specs.Gates.{FitsFlags, MayBeInput, pair_gate, single_gate, IsWrongPair, IsWrongSingle, IsGateFault, IsRead}
 use Rattle.bristol_reader.proofs.GateTokens.{pair_taken, pair_wrong, single_taken, single_wrong}
 use Rattle.zk_model.specs.declared.GateRow.{GateRow}
 use Rattle.zk_model.specs.declared.ReadFault.{ReadFault}
-use Rattle.bristol_reader.proofs.Splitting.{tokens_blank, tokens_first, left_digit, left_ended, left_same}
-use Rattle.bristol_reader.proofs.Wanted.{said_number}
-
--- ---- numbers and names
-
--- a number of at most eight digits
-pub below : (i n : ℕ) → i < 9 → n < 10 ^ i → n < 10 ^ 8
-below i n few small =
-    let some : 0 < 10 = omega arith in
-    let most : i ≤ 8 = omega arith in
-    let power : 10 ^ i ≤ 10 ^ 8 = pow-le-pow_right {n = 10} some {i = i} {j = 8} most in
-    omega arith
-
--- the text after a number and the blank that ends it
-pub starts_number : (text : List ℕ) (i n : ℕ) → n < 10 ^ 8 → IsEnded text (record { length = i; word = Number n })
-    → StartsNumber text n (take (length text - (i + 1)) (drop (i + 1) text))
-starts_number text i n small is =
-    let said = said_number (lexeme (take i text)) n is.is.word_is in
-    record {
-      small = small;
-      shorter = omega (arith, is.within, length-take (length text - (i + 1)) (drop (i + 1) text), length-drop (i + 1) text);
-      left = left_ended text (record { length = i; word = Number n }) is ∙ ap (λ l. l ∷ left_of (take (length text - (i + 1)) (drop (i + 1) text))) (said.1 ∙ ap number (exact said.0 said.2));
-    }
-  where
-    exact : (k : ℕ) → n ≡ min k greatest → k ≡ n
-    exact k same = omega (arith, small)
+use Rattle.text_tokens.proofs.Splitting.{tokens_blank, tokens_first, left_same}
 
 -- ---- a text with the same tokens, as where blanks are skipped
-
-pub number_after : (text start : List ℕ) (n : ℕ) (behind : List ℕ) → tokens start ≡ tokens text → length start ≤ length text → StartsNumber start n behind → StartsNumber text n behind
-number_after text start n behind same within starts = record {
-  small = starts.small;
-  shorter = omega (arith, starts.shorter);
-  left = left_same text start (sym same) ∙ starts.left;
-}
 
 pub name_after : (text start of behind : List ℕ) → tokens start ≡ tokens text → length start ≤ length text → StartsName start of behind → StartsName text of behind
 name_after text start of behind same within starts = record {
@@ -72,6 +39,16 @@ gate_after text start is_pair behind same within starts = record {
 }
 
 -- ---- a gate's first two numbers
+
+abbrev IsNoBlank : ℕ → Type 0
+IsNoBlank byte = is_blank byte ≡ false
+
+-- a digit and a space
+left_digit : (byte n : ℕ) (text : List ℕ) → is_blank byte ≡ false → lexeme (byte ∷ []) ≡ number n → left_of (byte ∷ 32 ∷ text) ≡ number n ∷ left_of text
+unfolding left_of
+left_digit byte n text no_blank is =
+    ap (map lexeme) (tokens_first (byte ∷ []) (32 ∷ text) (omega arith) (All-cons IsNoBlank byte [] no_blank (All-nil IsNoBlank)) refl)
+    ∙ ap (λ l. lexeme (byte ∷ []) ∷ l) (ap (map lexeme) (tokens_blank 32 text refl)) ∙ ap (λ l. l ∷ lexemes text) is
 
 -- what is cut off the front of a text
 abbrev AreParts : List ℕ → List ℕ → List ℕ → Type 0
@@ -181,15 +158,15 @@ blank_single = blank_gate single_text single_word
 -- ---- lines
 
 -- the tokens of a text, one after another
-pub pair_line : (text1 text2 text3 text4 text5 : List ℕ) (taken : ℕ) (before : Place) (line : PairLine) → taken ≡ before.taken
+pub pair_line : (text1 text2 text3 text4 text5 : List ℕ) (taken : ℕ) (before after : Place) (line : PairLine) → taken ≡ before.taken → after ≡ place_of text5 (taken + 6)
     → before.left ≡ number 2 ∷ number 1 ∷ left_of text1 → StartsNumber text1 line.a.number text2 → StartsNumber text2 line.b.number text3 → StartsNumber text3 line.out.number text4
     → StartsName text4 (pair_text line.name) text5 → line.a.token ≡ taken + 2 → line.b.token ≡ taken + 3 → line.out.token ≡ taken + 4
-    → IsPairLine before (place_of text5 (taken + 6)) line
-pair_line text1 text2 text3 text4 text5 taken before line at begins a b out named at_a at_b at_out = record {
+    → IsPairLine before after line
+pair_line text1 text2 text3 text4 text5 taken before after line at end begins a b out named at_a at_b at_out = record {
   takes = record {
     left = begins ∙ ap (λ l. number 2 ∷ number 1 ∷ l)
-        (a.left ∙ ap (λ l. number line.a.number ∷ l) (b.left ∙ ap (λ l. number line.b.number ∷ l) (out.left ∙ ap (λ l. number line.out.number ∷ l) named.left)));
-    taken = ap (λ n. n + 6) at;
+        (a.left ∙ ap (λ l. number line.a.number ∷ l) (b.left ∙ ap (λ l. number line.b.number ∷ l) (out.left ∙ ap (λ l. number line.out.number ∷ l) (named.left ∙ ap (λ (p : Place). name (pair_text line.name) ∷ p.left) (sym end)))));
+    taken = ap (λ (p : Place). p.taken) end ∙ ap (λ n. n + 6) at;
   };
   a = placed line.a text1 text2 2 a at_a;
   b = placed line.b text2 text3 3 b at_b;
@@ -199,15 +176,15 @@ pair_line text1 text2 text3 text4 text5 taken before line at begins a b out name
     placed : (it : Placed) (text behind : List ℕ) (k : ℕ) → StartsNumber text it.number behind → it.token ≡ taken + k → IsPlaced it it.number (before.taken + k)
     placed it text behind k starts token = record { number_is = omega (arith, starts.small); token_is = token ∙ ap (λ n. n + k) at }
 
-pub single_line : (text1 text2 text3 text4 : List ℕ) (taken : ℕ) (before : Place) (line : SingleLine) → taken ≡ before.taken
+pub single_line : (text1 text2 text3 text4 : List ℕ) (taken : ℕ) (before after : Place) (line : SingleLine) → taken ≡ before.taken → after ≡ place_of text4 (taken + 5)
     → before.left ≡ number 1 ∷ number 1 ∷ left_of text1 → StartsNumber text1 line.input.number text2 → StartsNumber text2 line.out.number text3
     → StartsName text3 (single_text line.name) text4 → line.input.token ≡ taken + 2 → line.out.token ≡ taken + 3
-    → IsSingleLine before (place_of text4 (taken + 5)) line
-single_line text1 text2 text3 text4 taken before line at begins input out named at_input at_out = record {
+    → IsSingleLine before after line
+single_line text1 text2 text3 text4 taken before after line at end begins input out named at_input at_out = record {
   takes = record {
     left = begins ∙ ap (λ l. number 1 ∷ number 1 ∷ l)
-        (input.left ∙ ap (λ l. number line.input.number ∷ l) (out.left ∙ ap (λ l. number line.out.number ∷ l) named.left));
-    taken = ap (λ n. n + 5) at;
+        (input.left ∙ ap (λ l. number line.input.number ∷ l) (out.left ∙ ap (λ l. number line.out.number ∷ l) (named.left ∙ ap (λ (p : Place). name (single_text line.name) ∷ p.left) (sym end))));
+    taken = ap (λ (p : Place). p.taken) end ∙ ap (λ n. n + 5) at;
   };
   input = placed line.input text1 text2 2 input at_input;
   out = placed line.out text2 text3 3 out at_out;

@@ -1,12 +1,10 @@
 -- The next token, and what is wanted of it.
-use Rattle.std.proofs.Common.{◌≡◌, ℕ, ◌<◌, Bool, length, take, get_or, true, false, Some, None, List, [], ◌∷◌, min, refl, ap, sym, ◌∙◌, subst, arith}
-use Rattle.std.specs.Prelude.{All, codes, if◌then◌else◌, ◌||◌, nat_le}
+use Rattle.std.proofs.Common.{◌≡◌, ℕ, ◌+◌, ◌<◌, Bool, true, false, Some, None, List, [], ◌∷◌, min, refl, ap, sym, ◌∙◌, subst, arith, add-zero}
+use Rattle.std.specs.Prelude.{codes, if◌then◌else◌, ◌||◌, nat_le}
 use Rattle.std.specs.Str.{bytes_eq}
-use Rattle.std.proofs.lemmas.List.{drop_more}
-use Rattle.std.proofs.lemmas.List.Elements.{All-from_recursion}
 use Rattle.std.proofs.lemmas.Bool.{lt-leb}
 use Rattle.std.proofs.lemmas.Slice.Eq.{bytes_eq-Decides}
-use Rattle.zk_model.specs.Bristol.{Lexeme, number, name, lexeme, is_blank}
+use Rattle.zk_model.specs.Bristol.{Lexeme, number, name, tokens}
 use Rattle.bristol_reader.specs.TextFaults.{Want, a_count, a_size, a_wire, a_name, input_number, output_number, no_token, first_lexeme_fault, lexeme_fault, name_fault, number_fault, is_name_of_two, is_name_of_one}
 use Rattle.zk_model.specs.declared.ReadFault.{ReadFault}
 use Rattle.zk_model.specs.declared.ReadFault.TheVariants.{BadNumber, BadGate, TooLarge, WireRange, ExtraText}
@@ -19,8 +17,11 @@ use Rattle.bristol_reader.specs.declared.wants.BinaryGate.TheVariants as pair
 use Rattle.bristol_reader.specs.declared.wants.UnaryGate.{UnaryGate}
 use Rattle.bristol_reader.specs.declared.wants.UnaryGate.TheVariants as single
 use Rattle.bristol_reader.specs.declared.wants.Placed.{Placed}
-use Rattle.bristol_reader.specs.Words.{greatest, name_of, word_of, EndsToken, Place, Takes, TakesWord}
-use Rattle.bristol_reader.specs.Scans.{IsEnded}
+use Rattle.zk_model.specs.ArithFaults.{Place}
+use Rattle.text_tokens.specs.Words as token
+use Rattle.text_tokens.specs.Words.{left_of, place_of, Takes}
+use Rattle.text_tokens.proofs.Splitting.{left_same}
+use Rattle.bristol_reader.specs.Words.{greatest, name_of, word_of, TakesWord}
 use Rattle.bristol_reader.specs.Wants.{next_fault, TakesNumber, pair_of, single_of, pair_text, single_text}
 
 -- ---- what a word says
@@ -70,34 +71,24 @@ said_name (name text) n is =
     let names : n ≡ name_of text = cc in
     (text, refl, subst (λ (m : GateName). IsNamed m text) (sym names) (named text))
 
--- a name has no blank, and its word
-abbrev IsNamedWord : GateName → List ℕ → Type 0
-IsNamedWord n text = All (λ byte. is_blank byte ≡ false) text × (Name n ≡ word_of (lexeme text))
+-- ---- the word of a token
 
-named_word : (n : GateName) (text : List ℕ) → IsNamed n text → ¬ (n ≡ Other) → IsNamedWord n text
-unfolding word_of name_of
-named_word And text is other = subst (IsNamedWord And) (sym is) (All-from_recursion (λ byte. is_blank byte ≡ false) (codes "AND") (refl, (refl, (refl, tt))), refl)
-named_word Xor text is other = subst (IsNamedWord Xor) (sym is) (All-from_recursion (λ byte. is_blank byte ≡ false) (codes "XOR") (refl, (refl, (refl, tt))), refl)
-named_word Inv text is other = subst (IsNamedWord Inv) (sym is) (All-from_recursion (λ byte. is_blank byte ≡ false) (codes "INV") (refl, (refl, (refl, tt))), refl)
-named_word Eq text is other = subst (IsNamedWord Eq) (sym is) (All-from_recursion (λ byte. is_blank byte ≡ false) (codes "EQ") (refl, (refl, tt)), refl)
-named_word Eqw text is other = subst (IsNamedWord Eqw) (sym is) (All-from_recursion (λ byte. is_blank byte ≡ false) (codes "EQW") (refl, (refl, (refl, tt))), refl)
-named_word Other text is other = absurd (other refl)
+pub name_taken : (before after : Place) (text : List ℕ) (n : GateName) → n ≡ name_of text → Takes (name text ∷ []) before after → TakesWord before after (Name n)
+name_taken before after text n is takes = record { lexeme = name text; word_is = ap Name is ∙ sym (name_word text); takes = takes }
 
--- a name up to a blank
-pub ended_name : (text : List ℕ) (i : ℕ) (n : GateName) → 0 < i → i < length text → is_blank (get_or text i 0) ≡ true → n ≡ name_of (take i text) → ¬ (n ≡ Other)
-    → IsEnded text (record { length = i; word = Name n })
-ended_name text i n some within blank is other =
-    let said : IsNamedWord n (take i text) = named_word n (take i text) (subst (λ (m : GateName). IsNamed m (take i text)) (sym is) (named (take i text))) other in
-    record {
-      some = some;
-      within = within;
-      is = record {
-        within = omega arith;
-        unbroken = said.0;
-        ends = subst EndsToken (sym (drop_more text i 0 within)) blank;
-        word_is = said.1;
-      };
-    }
+pub number_taken : (before after : Place) (n shown : ℕ) → shown ≡ min n greatest → token.TakesNumber before after n → TakesWord before after (Number shown)
+number_taken before after n shown is takes = record {
+  lexeme = number takes.exact;
+  word_is = ap Number (lesser takes.exact takes.shown_is) ∙ sym (number_word takes.exact);
+  takes = takes.takes;
+}
+  where
+    lesser : (exact : ℕ) → n ≡ min exact token.greatest → shown ≡ min exact greatest
+    lesser exact same = omega (arith, is, same)
+
+-- blanks that are skipped behind it
+pub blanks_behind : (after : Place) (rest behind : List ℕ) → after.left ≡ left_of rest → tokens behind ≡ tokens rest → place_of behind (after.taken + 0) ≡ after
+blanks_behind after rest behind left kept = λ i. record { left = (left_same behind rest kept ∙ sym left) i; taken = add-zero after.taken i }
 
 -- ---- the fault of a word
 

@@ -4,7 +4,8 @@ use Rattle.zk_model.specs.Bristol.{IsText}
 use Rattle.zk_model.specs.declared.GateRow.{GateRow}
 use Rattle.bristol_reader.specs.declared.header.Header.{Header}
 use Rattle.bristol_reader.specs.declared.fault.ReadError.{ReadError}
-use Rattle.bristol_reader.specs.Words.{Place, place_of}
+use Rattle.zk_model.specs.ArithFaults.{Place}
+use Rattle.text_tokens.specs.Words.{place_of}
 use Rattle.bristol_reader.specs.Circuits.{circuit_of}
 use Rattle.bristol_reader.specs.Gates.{flag_of}
 use Rattle.bristol_reader.specs.Headers.{TakesHeader}

@@ -12,7 +12,8 @@ use Rattle.bristol_reader.specs.declared.wants.BinaryGate.TheVariants as pair
 use Rattle.bristol_reader.specs.declared.wants.UnaryGate.{UnaryGate}
 use Rattle.bristol_reader.specs.declared.wants.UnaryGate.TheVariants as single
 use Rattle.bristol_reader.specs.declared.wants.Placed.{Placed}
-use Rattle.bristol_reader.specs.Words.{Place, Takes}
+use Rattle.zk_model.specs.ArithFaults.{Place}
+use Rattle.text_tokens.specs.Words.{Takes}
 use Rattle.bristol_reader.specs.Wants.{IsFaultBehind, IsPlaced, pair_text, single_text}
 
 -- ---- flags

@@ -3,7 +3,8 @@ use Rattle.std.specs.Prelude.{◌≡◌, ℕ, ◌-◌, ◌<◌, ◌≤◌, List,
 use Rattle.zk_model.specs.Bristol.{Lexeme, number, Values, counted_lexemes, header_lexemes}
 use Rattle.bristol_reader.specs.TextFaults.{Want, a_count, a_size}
 use Rattle.bristol_reader.specs.declared.header.Header.{Header}
-use Rattle.bristol_reader.specs.Words.{Place, Takes}
+use Rattle.zk_model.specs.ArithFaults.{Place}
+use Rattle.text_tokens.specs.Words.{Takes}
 use Rattle.zk_model.specs.declared.limits.TheConstants.{MAX_GATES, MAX_VALUES, MAX_WIRES}
 
 -- what a list of values wants after these of its tokens, which are all right: their number, or a size

@@ -6,6 +6,5 @@ pub mod Headers
 pub mod Laws
 pub mod Lines
 pub mod Reads
-pub mod Scans
 pub mod Wants
 pub mod Words

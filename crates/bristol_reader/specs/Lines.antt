@@ -3,16 +3,11 @@ use Rattle.std.specs.Prelude.{◌≡◌, ℕ, ◌+◌, ◌^◌, ◌<◌, ◌≤�
 use Rattle.zk_model.specs.Bristol.{number, name, is_blank, lexeme}
 use Rattle.bristol_reader.specs.declared.lines.PairLine.{PairLine}
 use Rattle.bristol_reader.specs.declared.lines.SingleLine.{SingleLine}
-use Rattle.bristol_reader.specs.Words.{Place, Takes, left_of}
+use Rattle.zk_model.specs.ArithFaults.{Place}
+use Rattle.text_tokens.specs.Words.{Takes, left_of}
 use Rattle.bristol_reader.specs.Wants.{IsPlaced, numbers_of, pair_text, single_text}
 
--- the first token of a text is this number, and this is the text after it
-pub record StartsNumber (text : List ℕ) (n : ℕ) (behind : List ℕ) : Type 0 where
-  pub small : n < 10 ^ 8
-  pub shorter : length behind < length text
-  pub left : left_of text ≡ number n ∷ left_of behind
-
--- the same of a name
+-- the first token of a text is this name, and this is the text after it
 pub record StartsName (text of behind : List ℕ) : Type 0 where
   pub shorter : length behind < length text
   pub left : left_of text ≡ name of ∷ left_of behind

@@ -1,6 +1,6 @@
 -- Which fault of a circuit's text comes first: that of the first token that is not what is wanted there, gate by gate, in
 -- each gate before those of its wires; then that of an output that is not set.
-use Rattle.std.specs.Prelude.{◌≡◌, ◌⊎◌, ℕ, ◌+◌, ◌-◌, ◌<◌, ◌≤◌, ◌^◌, ◌==◌, ◌||◌, nat_le, Bool, true, false, if◌then◌else◌, Option, None, Some, List, [], ◌∷◌, ◌++◌, map, flat_map, length, take, slice_get, sum, codes, All}
+use Rattle.std.specs.Prelude.{◌≡◌, ◌⊎◌, ℕ, ◌+◌, ◌-◌, ◌<◌, ◌≤◌, ◌==◌, ◌||◌, nat_le, Bool, true, false, if◌then◌else◌, Option, None, Some, List, [], ◌∷◌, ◌++◌, map, flat_map, length, take, slice_get, sum, codes, All}
 use Rattle.std.specs.Str.{bytes_eq}
 use Rattle.zk_model.specs.Circuit.{Circuit, IsSet, IsWellFormed, output_wire}
 use Rattle.zk_model.specs.Bristol.{Lexeme, number, name, lexemes, gate_lexemes, counted_lexemes, header_lexemes, Values, IsWithinLimits}

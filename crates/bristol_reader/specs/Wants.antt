@@ -11,7 +11,9 @@ use Rattle.bristol_reader.specs.declared.wants.BinaryGate.TheVariants as pair
 use Rattle.bristol_reader.specs.declared.wants.UnaryGate.{UnaryGate}
 use Rattle.bristol_reader.specs.declared.wants.UnaryGate.TheVariants as single
 use Rattle.bristol_reader.specs.declared.wants.Placed.{Placed}
-use Rattle.bristol_reader.specs.Words.{greatest, Place, Takes}
+use Rattle.zk_model.specs.ArithFaults.{Place}
+use Rattle.text_tokens.specs.Words.{Takes}
+use Rattle.bristol_reader.specs.Words.{greatest}
 
 -- the fault of the token at a place
 abbrev pub next_fault : Want → Place → Option ReadFault

@@ -2,7 +2,7 @@
 ghost use Rattle.std.specs.Prelude.{◌≡◌, ◌≤◌, ◌^◌, true, false, IfOk, IfErr, IfSome, IfNone, length};
 ghost use Rattle.zk_model.specs.Bristol.{gate_lexemes};
 ghost use Rattle.bristol_reader.specs.TextFaults.{GateWants};
-ghost use Rattle.bristol_reader.specs.Words.{Takes};
+ghost use Rattle.text_tokens.specs.Words.{Takes};
 ghost use Rattle.bristol_reader.specs.Wants.{numbers_of, IsFaultBehind};
 ghost use Rattle.bristol_reader.specs.Gates.{IsSetWire, IsNoSetWire, IsFreeWire, IsNoFreeWire};
 ghost use Rattle.bristol_reader.specs.Gates.{MayBeInput, MayNotBeInput};

@@ -1,15 +1,13 @@
 //! Circuits in Bristol Fashion.
 //!
 //! `reader` has `read`; `circuit` what it gives, `fault` why not. A text is read from `tokens`, one by one, by `wants` where a
-//! token of one kind must come next, or a gate's whole line at once by `lines`; `blanks` stand between them. `header`, `gate`
-//! and `body` read the counts, one gate and all gates; `set_wires` keeps which wires are set. `laws` says that a text has one
-//! circuit or one first fault.
+//! token of one kind must come next, or a gate's whole line at once by `lines`. `header`, `gate` and `body` read the counts, one
+//! gate and all gates; `set_wires` keeps which wires are set. `laws` says that a text has one circuit or one first fault.
 //!
 //!     let text = load_file(alloc, shelf, name)?;
 //!     let circuit = read(alloc, &text)?; // or ReadError::Fault, such as ReadFault::ShortText { token: 2 }
 #![tactic(auto)]
 
-mod blanks;
 mod body;
 mod circuit;
 mod fault;

@@ -1,12 +1,11 @@
 // Lines of gates that are read at once. A plain line has one space between tokens, as most have, and any blanks after the
 // name; a spaced one has any blanks anywhere. What is neither, as a number of nine digits, is read token by token.
-ghost use Rattle.std.specs.Prelude.{◌≡◌, ◌+◌, ◌<◌, ◌≤◌, true, [], ◌∷◌, ◌++◌, IfSome, length, take};
-ghost use Rattle.zk_model.specs.Bristol.{is_blank, tokens};
+ghost use Rattle.std.specs.Prelude.{◌≡◌, true, [], ◌∷◌, ◌++◌, IfSome, take};
 ghost use Rattle.bristol_reader.specs.Wants.{pair_text, single_text};
-ghost use Rattle.bristol_reader.specs.Lines.{IsWord, StartsGate, StartsName, StartsNumber};
+ghost use Rattle.bristol_reader.specs.Lines.{IsWord, StartsGate, StartsName};
 
-use crate::blanks::{is_blank, skip_blanks};
 use crate::wants::{BinaryGate, Placed, UnaryGate};
+use text_tokens::{is_blank, next_token, short_number, skip_blanks};
 
 /// The line of a gate with two inputs.
 #[derive(Clone, Copy)]
@@ -25,13 +24,6 @@ pub struct SingleLine {
     pub out: Placed,
 }
 
-/// How far a byte is above the digit 0, which is below 10 at digits alone.
-fn digit_value(byte: u8) -> u32
-    ensures { result < 10 → byte ≡ result + 48 }
-{
-    u32::from(byte).wrapping_sub(u32::from(b'0'))
-}
-
 /// Whether two texts of four bytes are the same, of which all bytes are compared at once.
 #[inline(always)]
 fn are_same(some: &[u8; 4], other: &[u8; 4]) -> bool
@@ -46,57 +38,6 @@ fn with_line_feed(line: &[u8; 4]) -> [u8; 4]
     ensures { result ≡ take 3 line.now ++ 10 ∷ [] }
 {
     [line[0], line[1], line[2], b'\n']
-}
-
-/// Whether a byte ends a number before it: a space, or any blank of a line that is spaced.
-#[inline(always)]
-fn ends_number<const SPACED: bool>(byte: u8) -> bool
-    ensures { result ≡ true → is_blank byte ≡ true }
-{
-    byte == b' ' || (SPACED && is_blank(byte))
-}
-
-/// Where the next token of a line begins: after blanks, if it is spaced.
-#[inline(always)]
-fn next_token<const SPACED: bool>(text: &[u8]) -> &[u8]
-    ensures within { length result.now ≤ length text.now }
-    ensures tokens_kept { tokens result.now ≡ tokens text.now }
-{
-    if SPACED {
-        return skip_blanks(text);
-    }
-    text
-}
-
-/// The number that a text begins with, if it has at most eight digits and its end after it, and the text after that.
-#[inline(always)]
-fn number_here<const SPACED: bool>(text: &[u8]) -> Option<(u32, &[u8])>
-    ensures { IfSome result (λ r. StartsNumber text.now r.0 r.1.now) }
-{
-    let front = text.first_chunk::<9>()?;
-    let mut value = 0;
-    for (i, byte) in front.iter().enumerate() {
-        let digit = digit_value(*byte);
-        if digit < 10 {
-            value = value * 10 + digit;
-        } else if i > 0 && ends_number::<SPACED>(*byte) {
-            return Some((value, &text[i + 1..]));
-        } else {
-            return None;
-        }
-    }
-    None
-}
-
-/// The next number of a line, if it is short, and the text after it.
-#[tactic(auto, using(crate::proofs::PlainLines::number_after))]
-#[inline(always)]
-pub fn short_number<const SPACED: bool>(text: &[u8]) -> Option<(u32, &[u8])>
-    ensures { IfSome result (λ r. StartsNumber text.now r.0 r.1.now) }
-{
-    let start = next_token::<SPACED>(text);
-    let (number, behind) = number_here::<SPACED>(start)?;
-    Some((number, behind))
 }
 
 /// Whether the gate of a plain line has two inputs, by its numbers of inputs and of outputs, and the text after them.

@@ -1,15 +1,13 @@
 // A text, token by token.
-ghost use Rattle.std.specs.Prelude.{◌≡◌, ◌≤◌, ◌+◌, ◌*◌, ◌-◌, ◌<◌, ◌^◌};
-ghost use Rattle.std.specs.Prelude.{IfSome, IfNone, true, false, [], length, min};
-ghost use Rattle.zk_model.specs.Bristol.{is_digit, lexeme};
-ghost use Rattle.bristol_reader.specs.Words.{greatest, name_of, word_of, TakesWord, place_of};
-ghost use Rattle.bristol_reader.specs.Scans.{AreScanned, IsScanned};
+ghost use Rattle.std.specs.Prelude.{◌≡◌, IfSome, IfNone, true, false, [], min};
+ghost use Rattle.text_tokens.specs.Words.{place_of};
+ghost use Rattle.bristol_reader.specs.Words.{greatest, name_of, TakesWord};
 ghost use Rattle.bristol_reader.specs.Lines.{IsGateAt, IsPairLine, IsSingleLine};
 
-use crate::blanks::{is_blank, skip_blanks};
-use crate::lines::{PairLine, SingleLine, heading, pair_name, short_number, single_name};
+use crate::lines::{PairLine, SingleLine, heading, pair_name, single_name};
 use crate::wants::Placed;
 use std::marker::Model;
+use text_tokens::{Next, Tokens as TextTokens, short_number, skip_blanks};
 
 /// The name of a gate, or any other.
 #[derive(Clone, Copy)]
@@ -27,21 +25,6 @@ pub enum GateName {
 pub enum Word {
     Number(u32),
     Name(GateName),
-}
-
-/// An ASCII digit.
-fn is_digit(byte: u8) -> bool
-    ensures { result ≡ is_digit byte }
-{
-    b'0' <= byte && byte <= b'9'
-}
-
-/// The number with one digit more, or 2^32 - 1 if it is greater.
-fn with_digit(value: u32, digit: u8) -> u32
-    requires { 48 ≤ digit }
-    ensures { result ≡ min (10 * value + (digit - 48)) greatest }
-{
-    (value as u64 * 10 + (digit - b'0') as u64).min(u32::MAX as u64) as u32
 }
 
 /// The gate's name that a token is.
@@ -64,47 +47,11 @@ fn gate_name(token: &[u8]) -> GateName
     }
 }
 
-/// What a token says, of which all bytes are digits or not, with the number that they say or 2^32 - 1 if it is greater.
-#[tactic(auto, unfolding(crate::specs::Words::word_of))]
-fn read_word(token: &[u8], is_number: bool, value: u32) -> Word
-    requires { AreScanned token.now is_number value }
-    ensures { result ≡ word_of (lexeme token.now) }
+/// The number, or 2^32 - 1 if it is greater.
+fn shown(number: u64) -> u32
+    ensures { result ≡ min number greatest }
 {
-    if is_number {
-        Word::Number(value)
-    } else {
-        Word::Name(gate_name(token))
-    }
-}
-
-/// The first token of a text: how many bytes it has, and what it says.
-#[derive(Clone, Copy)]
-struct Scanned {
-    length: usize,
-    word: Word,
-}
-
-/// The first token of a text that begins with one.
-fn scan(text: &[u8]) -> Scanned
-    ensures { IsScanned text.now result }
-{
-    let mut is_number = true;
-    let mut value = 0;
-    for (i, byte) in text.iter().enumerate() {
-        if is_digit(*byte) {
-            value = with_digit(value, *byte);
-        } else if is_blank(*byte) {
-            let word = read_word(&text[..i], is_number, value);
-            return Scanned { length: i, word };
-        } else {
-            is_number = false;
-        }
-    }
-    let word = read_word(text, is_number, value);
-    Scanned {
-        length: text.len(),
-        word,
-    }
+    number.min(u64::from(u32::MAX)) as u32
 }
 
 /// How many lines after a spaced one are taken for spaced ones before a plain one is looked for again.
@@ -114,20 +61,16 @@ const SPACED_LINES: u32 = 64;
 /// ones.
 #[derive(Drop)]
 pub struct Tokens<'a> {
-    rest: &'a [u8],
-    taken: u64,
+    tokens: TextTokens<'a>,
     spaced_lines: u32,
 }
 
 impl<'a> Model for Tokens<'a> {
-    ghost use Rattle.std.specs.Prelude.{◌+◌, ◌<◌, ◌^◌, length};
-    ghost use Rattle.bristol_reader.specs.Words.{Place, place_of};
+    ghost use Rattle.zk_model.specs.ArithFaults.{Place};
 
     ghost Value = { Place };
 
-    ghost view = { λ t. place_of t.rest.now t.taken };
-
-    ghost invariant = { λ t. t.taken + length t.rest.now < 2 ^ 64 };
+    ghost view = { λ t. t.tokens };
 }
 
 impl<'a> Tokens<'a> {
@@ -136,8 +79,7 @@ impl<'a> Tokens<'a> {
         ensures { result ≡ place_of text.now 0 }
     {
         Tokens {
-            rest: text,
-            taken: 0,
+            tokens: TextTokens::new(text),
             spaced_lines: 0,
         }
     }
@@ -146,7 +88,7 @@ impl<'a> Tokens<'a> {
     pub fn taken(&self) -> u64
         ensures { result ≡ self.now.taken }
     {
-        self.taken
+        self.tokens.taken()
     }
 
     /// Whether the next line is taken for a spaced one.
@@ -172,14 +114,14 @@ impl<'a> Tokens<'a> {
         ensures end { IfNone result (self.old.left ≡ []) }
         ensures word { IfSome result (TakesWord self.old self.new) }
     {
-        let start = skip_blanks(self.rest);
-        if start.is_empty() {
-            return None;
-        }
-        let scanned = scan(start);
-        self.rest = skip_blanks(&start[scanned.length..]);
-        self.taken += 1;
-        Some(scanned.word)
+        let word = match self.tokens.next() {
+            Next::End => return None,
+            Next::Name(name) => Word::Name(gate_name(name)),
+            Next::Number(number) => Word::Number(shown(number)),
+        };
+        let behind = skip_blanks(self.tokens.rest());
+        self.tokens.move_on(0, behind);
+        Some(word)
     }
 
     /// Whether the gate that comes next has two inputs, and the text after its numbers of inputs and of outputs, if they
@@ -188,7 +130,7 @@ impl<'a> Tokens<'a> {
     pub fn heading<const SPACED: bool>(&self) -> Option<(bool, &'a [u8])>
         ensures { IfSome result (λ r. IsGateAt self.now r.0 r.1.now) }
     {
-        let (is_pair, behind) = heading::<SPACED>(self.rest)?;
+        let (is_pair, behind) = heading::<SPACED>(self.tokens.rest())?;
         Some((is_pair, behind))
     }
 
@@ -203,9 +145,8 @@ impl<'a> Tokens<'a> {
         let (b, behind) = short_number::<SPACED>(behind)?;
         let (out, behind) = short_number::<SPACED>(behind)?;
         let (name, behind) = pair_name::<SPACED>(behind)?;
-        let first = self.taken;
-        self.rest = behind;
-        self.taken += 6;
+        let first = self.tokens.taken();
+        self.tokens.move_on(6, behind);
         Some(PairLine {
             name,
             a: Placed {
@@ -233,9 +174,8 @@ impl<'a> Tokens<'a> {
         let (input, behind) = short_number::<SPACED>(behind)?;
         let (out, behind) = short_number::<SPACED>(behind)?;
         let (name, behind) = single_name::<SPACED>(behind)?;
-        let first = self.taken;
-        self.rest = behind;
-        self.taken += 5;
+        let first = self.tokens.taken();
+        self.tokens.move_on(5, behind);
         Some(SingleLine {
             name,
             input: Placed {

@@ -3,7 +3,7 @@ ghost use Rattle.std.specs.Prelude.{◌≡◌, ◌≤◌, ◌^◌, IfOk, IfErr, 
 ghost use Rattle.zk_model.specs.Bristol.{number, name};
 ghost use Rattle.bristol_reader.specs.TextFaults.{a_count, a_size, input_number, output_number};
 ghost use Rattle.bristol_reader.specs.TextFaults.{a_wire, a_name, no_token};
-ghost use Rattle.bristol_reader.specs.Words.{Takes};
+ghost use Rattle.text_tokens.specs.Words.{Takes};
 ghost use Rattle.bristol_reader.specs.Wants.{inputs_of, pair_of, pair_text, single_of, single_text};
 ghost use Rattle.bristol_reader.specs.Wants.{next_fault, TakesNumber};
 ghost use Rattle.zk_model.specs.declared.limits.TheConstants.{MAX_WIRES};

@@ -10,7 +10,7 @@ use Rattle.zk_model.specs.Circuit.{Circuit, wire_set}
 use Rattle.circuit_gen.specs.Generated.{line, gate_line, heading, plain_text}
 use Rattle.zk_model.specs.declared.GateRow.{GateRow}
 use Rattle.zk_model.specs.declared.GateRow.TheVariants.{And, Xor, Inv, Eqw, Eq}
-use Rattle.bristol_reader.proofs.Splitting.{tokens_blank, tokens_first}
+use Rattle.text_tokens.proofs.Splitting.{tokens_blank, tokens_first}
 use Rattle.circuit_gen.specs.Lines.{ReadsEarlier}
 use Rattle.circuit_gen.proofs.Numbers.{IsToken, number_token, number_lexeme}
 

@@ -8,7 +8,7 @@ use Rattle.std.proofs.lemmas.List.Elements.{All-nil, All-cons}
 use Rattle.std.proofs.lemmas.Option.{slice_get-get_or}
 use Rattle.zk_model.specs.declared.GateRow.{GateRow}
 use Rattle.zk_model.specs.declared.GateRow.TheVariants.{And, Xor, Inv, Eqw, Eq}
-use Rattle.packed_gates.specs.PackedSteps.{ArePacked, IsRule, factors_of, gate_factors, gate_of, gate_rule, gates_of, rules_from}
+use Rattle.packed_gates.specs.PackedSteps.{ArePacked, IsGateRule, factors_of, gate_factors, gate_of, gate_rule, gates_of, rules_from}
 use Rattle.packed_gates.specs.declared.packed.Factors.{Factors}
 use Rattle.packed_gates.specs.declared.packed.PackedStep.{PackedStep}
 use Rattle.packed_gates.specs.declared.packed.PackedStep.TheVariants as rule
@@ -61,25 +61,25 @@ unpacked before (Eq bit out ∷ gates) = λ i. Eq bit out ∷ gates_same before 
 
 -- the first rule and the others are within, behind a gate that has a product
 within_behind : (before : List Factors) (next : Factors) (gates : List GateRow) (first : PackedStep)
-    → (length before < length (before ++ next ∷ factors_in gates) → IsRule (length (before ++ next ∷ factors_in gates)) first)
-    → All (IsRule (length (before ++ next ∷ [] ++ factors_in gates))) (rules_from (length (before ++ next ∷ [])) gates)
-    → All (IsRule (length (before ++ next ∷ factors_in gates))) (first ∷ rules_from (length before + 1) gates)
+    → (length before < length (before ++ next ∷ factors_in gates) → IsGateRule (length (before ++ next ∷ factors_in gates)) first)
+    → All (IsGateRule (length (before ++ next ∷ [] ++ factors_in gates))) (rules_from (length (before ++ next ∷ [])) gates)
+    → All (IsGateRule (length (before ++ next ∷ factors_in gates))) (first ∷ rules_from (length before + 1) gates)
 within_behind before next gates first is far =
-    All-cons (IsRule (length (before ++ next ∷ factors_in gates))) first (rules_from (length before + 1) gates)
+    All-cons (IsGateRule (length (before ++ next ∷ factors_in gates))) first (rules_from (length before + 1) gates)
     (is (omega (arith, length-append before (next ∷ factors_in gates))))
-    (subst (λ n. All (IsRule (length (before ++ next ∷ factors_in gates))) (rules_from n gates)) (one_longer before next)
-    (subst (λ f. All (IsRule (length f)) (rules_from (length (before ++ next ∷ [])) gates)) (one_over before next (factors_in gates)) far))
+    (subst (λ n. All (IsGateRule (length (before ++ next ∷ factors_in gates))) (rules_from n gates)) (one_longer before next)
+    (subst (λ f. All (IsGateRule (length f)) (rules_from (length (before ++ next ∷ [])) gates)) (one_over before next (factors_in gates)) far))
 
 -- and behind one that has none
-within_same : (before : List Factors) (gates : List GateRow) (first : PackedStep) → IsRule (length (before ++ factors_in gates)) first
-    → All (IsRule (length (before ++ factors_in gates))) (rules_from (length before) gates)
-    → All (IsRule (length (before ++ factors_in gates))) (first ∷ rules_from (length before + 0) gates)
+within_same : (before : List Factors) (gates : List GateRow) (first : PackedStep) → IsGateRule (length (before ++ factors_in gates)) first
+    → All (IsGateRule (length (before ++ factors_in gates))) (rules_from (length before) gates)
+    → All (IsGateRule (length (before ++ factors_in gates))) (first ∷ rules_from (length before + 0) gates)
 within_same before gates first is far =
-    All-cons (IsRule (length (before ++ factors_in gates))) first (rules_from (length before + 0) gates) is
-    (subst (λ n. All (IsRule (length (before ++ factors_in gates))) (rules_from n gates)) (sym (add-zero (length before))) far)
+    All-cons (IsGateRule (length (before ++ factors_in gates))) first (rules_from (length before + 0) gates) is
+    (subst (λ n. All (IsGateRule (length (before ++ factors_in gates))) (rules_from n gates)) (sym (add-zero (length before))) far)
 
-pub rules_within : (before : List Factors) (gates : List GateRow) → All (IsRule (length (before ++ factors_in gates))) (rules_from (length before) gates)
-rules_within before [] = All-nil (IsRule (length (before ++ [])))
+pub rules_within : (before : List Factors) (gates : List GateRow) → All (IsGateRule (length (before ++ factors_in gates))) (rules_from (length before) gates)
+rules_within before [] = All-nil (IsGateRule (length (before ++ [])))
 rules_within before (And a b out ∷ gates) =
     within_behind before (record { a = a; b = b }) gates (rule.Mul out (length before)) (λ below. below) (rules_within (before ++ record { a = a; b = b } ∷ []) gates)
 rules_within before (Xor a b out ∷ gates) =
@@ -88,10 +88,10 @@ rules_within before (Inv a out ∷ gates) = within_same before gates (rule.Not o
 rules_within before (Eqw a out ∷ gates) = within_same before gates (rule.Copy out a) tt (rules_within before gates)
 rules_within before (Eq bit out ∷ gates) = within_same before gates (rule.Bit out bit) tt (rules_within before gates)
 
-pub packed_within : (gates : List GateRow) (rules : List PackedStep) (factors : List Factors) → ArePacked gates rules factors → All (IsRule (length factors)) rules
+pub packed_within : (gates : List GateRow) (rules : List PackedStep) (factors : List Factors) → ArePacked gates rules factors → All (IsGateRule (length factors)) rules
 packed_within gates rules factors are =
-    subst (λ r. All (IsRule (length factors)) r) (sym are.rules_are)
-    (subst (λ f. All (IsRule (length f)) (rules_from 0 gates)) (sym are.factors_are) (rules_within [] gates))
+    subst (λ r. All (IsGateRule (length factors)) r) (sym are.rules_are)
+    (subst (λ f. All (IsGateRule (length f)) (rules_from 0 gates)) (sym are.factors_are) (rules_within [] gates))
 
 -- there are as many rules as gates, and no more products
 pub length-rules_from : (number : ℕ) (gates : List GateRow) → length (rules_from number gates) ≡ length gates

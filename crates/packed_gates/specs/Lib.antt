@@ -1,1 +1,2 @@
 pub mod PackedSteps
+pub mod PackedRows

@@ -1,6 +1,6 @@
 use Rattle.std.proofs.Common.{sym, ap, inl}
 use Rattle.zk_model.specs.Bristol.{gate_lexemes}
-use Rattle.bristol_reader.specs.Words.{Takes}
+use Rattle.text_tokens.specs.Words.{Takes}
 use Rattle.bristol_reader.specs.Wants.{inputs_of}
 use Rattle.bristol_reader.specs.Gates.{IsGateFault}
 use Rattle.bristol_reader.proofs.GateTokens.{gate_taken}

@@ -3,7 +3,7 @@ use Rattle.bristol_reader.specs.TextFaults.{HeaderWants}
 use Rattle.bristol_reader.specs.declared.fault.ReadError.TheVariants.{Fault}
 use Rattle.bristol_reader.specs.Reads.{TextCause}
 use Rattle.bristol_reader.specs.Wants.{IsFaultBehind}
-use Rattle.bristol_reader.specs.Words.{Place}
+use Rattle.zk_model.specs.ArithFaults.{Place}
 use Rattle.bristol_reader.proofs.BodySteps.{header_fault}
 use Rattle.bristol_reader.proofs.Exits.{raised}
 use Rattle.bristol_reader.proofs.reader.read_text.Goals as goal

@@ -1,23 +1,19 @@
-use Rattle.zk_model.specs.Bristol.{lexeme}
-use Rattle.std.proofs.Common.{◌∷◌, take, ◌≡◌, ◌+◌, rules, ap, sym, ◌∙◌, length}
-use borrow.Author.Tests.{tests}
-use Rattle.bristol_reader.specs.Words.{Place}
-use Rattle.bristol_reader.proofs.Splitting.{left_end, left_next, left_same, some_bytes}
+use Rattle.std.proofs.Common.{sym, ◌∙◌, subst}
+use Rattle.zk_model.specs.ArithFaults.{Place}
+use Rattle.bristol_reader.specs.Words.{TakesWord}
+use Rattle.bristol_reader.specs.declared.tokens.Word.{Word}
+use Rattle.bristol_reader.proofs.Wanted.{blanks_behind, name_taken, number_taken}
 use Rattle.bristol_reader.proofs.tokens.Tokens.next.Goals as goal
-
-pub returns-then-is_empty-clause-end : goal.returns-then-is_empty-clause-end
-returns-then-is_empty-clause-end c =
-    let none : length c.skip_blanks-start.result.now ≡ 0 = search (rules, tests) in
-    ap (λ (p : Place). p.left) (sym c.self.view_is) ∙ left_end c.self.inside.rest.now c.skip_blanks-start.result.now c.skip_blanks-start.ensures.tokens_kept none
+use Rattle.bristol_reader.proofs.tokens.Tokens.next.Goals.{in-Name, in-Number}
 
 pub returns-clause-word : goal.returns-clause-word
-returns-clause-word c = record {
-  lexeme = _;
-  word_is = c.scan-scanned.ensures.word_is;
-  takes = record {
-    left = ap (λ (p : Place). p.left) (sym c.self.view_is) ∙ left_next c.self.inside.rest.now c.skip_blanks-start.result.now c.scan-scanned.result c.skip_blanks-start.ensures.tokens_kept (some_bytes c.skip_blanks-start.result.now c.is_empty.result c.is_empty.ensures c.if-is_empty.false)
-        c.skip_blanks-start.ensures.begins c.scan-scanned.ensures
-        ∙ ap (λ l. lexeme (take c.scan-scanned.result.length c.skip_blanks-start.result.now) ∷ l) (left_same _ _ (sym c.skip_blanks-self-inside.ensures.tokens_kept));
-    taken = ap (λ (p : Place). p.taken + 1) c.self.view_is;
-  };
-}
+returns-clause-word c =
+    let same = c.move_on.ensures ∙ blanks_behind c.next.new.self c.rest.result.now c.skip_blanks-behind.result.now c.rest.ensures.left c.skip_blanks-behind.ensures.tokens_kept in
+    subst (λ (p : Place). TakesWord c.args.self.now p c.match-next.word) (sym same)
+    (subst (λ (p : Place). TakesWord p c.next.new.self c.match-next.word) c.self.view_is
+    (elim c.match-next.branch [
+      | in-Name w ↦ subst (λ (n : Word). TakesWord c.self.inside.tokens c.next.new.self n) (sym w.word-is)
+          (name_taken c.self.inside.tokens c.next.new.self w.in-Name.name.now w.gate_name.result w.gate_name.ensures w.in-Name.ensures)
+      | in-Number w ↦ subst (λ (n : Word). TakesWord c.self.inside.tokens c.next.new.self n) (sym w.word-is)
+          (number_taken c.self.inside.tokens c.next.new.self w.in-Number.number w.shown.result w.shown.ensures w.in-Number.ensures)
+    ]))

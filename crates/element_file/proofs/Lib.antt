@@ -1,0 +1,4 @@
+pub mod ExampleRows
+pub mod Exits
+pub mod OneReading
+pub mod Reading
