@@ -1,7 +1,7 @@
 -- How many steps there are, and how many slots.
-use Rattle.std.proofs.Common.{◌≡◌, ◌≢◌, ℕ, ◌<◌, ◌≤◌, List, [], map, length, get_or, sym, ◌∙◌, subst, arith}
+use Rattle.std.proofs.Common.{◌≡◌, ◌≢◌, ℕ, ◌+◌, ◌-◌, ◌<◌, ◌≤◌, ⊎_elim, inl, List, [], map, length, get_or, sym, ◌∙◌, subst, arith}
 use Rattle.std.specs.Prelude.{Some, slice_get, slice_index, All, AllPairs}
-use Rattle.std.proofs.lemmas.Bool.{eqb-true}
+use Rattle.std.proofs.lemmas.Bool.{cases_lt, eqb-true}
 use Rattle.std.proofs.lemmas.Bool.Decides.{Decides-eqb}
 use Rattle.std.proofs.lemmas.List.{length-map, get_or-map}
 use Rattle.std.proofs.lemmas.List.Elements.{All-contains}
@@ -22,33 +22,52 @@ few_below xs n once below = length-le_from_distinct_below xs n (IsDistinct-from_
 no_step : Step
 no_step = record { out = 0; wires = []; given = []; constant = 0 }
 
--- each step sets a wire of its own
-pub few_steps : (program : Program) → IsProgram program → length program.steps ≤ program.wires
-few_steps program formed = let few = few_below outs program.wires apart within in let counted = length-map program.steps (λ (s : Step). s.out) in omega (arith, few, counted)
+-- each step sets a wire of its own, behind the first ones
+pub few_behind_first : (program : Program) → IsProgram program → program.public + program.inputs + length program.steps ≤ program.wires
+few_behind_first program formed =
+    let few = few_below outs (program.wires - first) apart within in
+    let counted = length-map program.steps out_of in
+    omega (arith, few, counted, formed.first)
   where
+    first : ℕ
+    first = program.public + program.inputs
+
+    out_of : Step → ℕ
+    out_of step = step.out - first
+
     outs : List ℕ
-    outs = map (λ (s : Step). s.out) program.steps
+    outs = map out_of program.steps
 
     step_at : ℕ → Step
     step_at i = get_or program.steps i no_step
 
     inside : (i : ℕ) → i < length outs → i < length program.steps
-    inside i below = let counted = length-map program.steps (λ (s : Step). s.out) in omega (arith, below, counted)
+    inside i below = let counted = length-map program.steps out_of in omega (arith, below, counted)
 
     stands : (i : ℕ) → i < length outs → slice_get program.steps i ≡ Some (step_at i)
     stands i below = slice_get-get_or program.steps i no_step (inside i below)
 
-    at : (i d : ℕ) → i < length outs → get_or outs i d ≡ (step_at i).out
-    at i d below = get_or-map (λ (s : Step). s.out) program.steps i no_step d (inside i below)
+    at : (i d : ℕ) → i < length outs → get_or outs i d ≡ (step_at i).out - first
+    at i d below = get_or-map out_of program.steps i no_step d (inside i below)
 
-    within : All (λ x. x < program.wires) outs
-    within i d below = subst (λ x. x < program.wires) (sym (at i d below)) (formed.steps i (step_at i) (stands i below)).within
+    behind : (i : ℕ) → i < length outs → first ≤ (step_at i).out
+    behind i below = ⊎_elim (λ early. absurd ((formed.steps i (step_at i) (stands i below)).once (inl early))) (λ late. late) (cases_lt (step_at i).out first)
+
+    within : All (λ x. x < program.wires - first) outs
+    within i d below =
+        let inside = (formed.steps i (step_at i) (stands i below)).within in
+        omega (arith, at i d below, behind i below, inside)
 
     apart : AllPairs (λ one other. one ≢ other) outs
     apart i j d before below same =
-        let first : i < length outs = omega (arith, before, below) in
+        let early : i < length outs = omega (arith, before, below) in
+        let equal : (step_at i).out ≡ (step_at j).out =
+        omega (arith, at i d early, same, at j d below, behind i early, behind j below) in
         (formed.steps j (step_at j) (stands j below)).once
-        (subst (IsSet program j) (sym (at i d first) ∙ same ∙ at j d below) (sets_own program i j (step_at i) (stands i first) before))
+        (subst (IsSet program j) equal (sets_own program i j (step_at i) (stands i early) before))
+
+pub few_steps : (program : Program) → IsProgram program → length program.steps ≤ program.wires
+few_steps program formed = omega (arith, few_behind_first program formed)
 
 -- there are no more slots than wires
 pub few_slots : (program : Program) (count : ℕ) → IsProgram program → (k : ℕ) × (wires : List ℕ) × AreLive program k wires × (length wires ≡ count)

@@ -37,7 +37,7 @@ none_read program last is = record {
     zeros wire = ap (λ l. slice_index l wire) is ∙ none_at program.wires wire
 
 pub one_read : (program : Program) (k : ℕ) (s : Step) (operands : Operands) (before after : List ℕ) → IsSmallProgram program
-    → slice_get program.steps k ≡ Some (step_equation s) → HasFactors program.products s → operands ≡ operands_of s
+    → slice_get program.steps k ≡ Some (step_equation s) → HasFactors program s → operands ≡ operands_of s
     → NotesOperands (k + 1) operands before after → AreLastReads program k before → AreLastReads program (k + 1) after
 one_read program k s operands before after held stands has are notes far = record {
   whole = notes.whole ∙ far.whole;

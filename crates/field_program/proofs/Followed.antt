@@ -19,7 +19,7 @@ use Rattle.field_program.proofs.Operands.{reads_operands, operands_read, read_se
 
 -- operands of a step are wires
 pub operands_within : (program : Program) (k : ℕ) (s : Step) (operands : Operands) → IsSmallProgram program → slice_get program.steps k ≡ Some (step_equation s)
-    → HasFactors program.products s → operands ≡ operands_of s → AreOperandsWithin program.wires operands
+    → HasFactors program s → operands ≡ operands_of s → AreOperandsWithin program.wires operands
 operands_within program k s operands held stands has are = by operands (λ wire is. set_below program k wire held.formed
     (read_set program k wire (step_equation s) held stands (operands_read program s wire has (subst (λ o. IsOperand o wire) are is))))
   where
@@ -85,7 +85,7 @@ operands_ended program ends k out s (Two a b) at mid after is f first (next, lef
     ((f.reads a (inl refl)).0, λ same. absurd ((f.reads a (inl refl)).1 (same ∙ is))) left holding)) f.slots
 
 pub step_followed : (program : Program) (ends : List ℕ) (k out : ℕ) (s : Step) (operands : Operands) (before at mid after : Slots) → IsSmallProgram program
-    → AreEnds program ends → slice_get program.steps k ≡ Some (step_equation s) → HasFactors program.products s → operands ≡ operands_of s
+    → AreEnds program ends → slice_get program.steps k ≡ Some (step_equation s) → HasFactors program s → operands ≡ operands_of s
     → out ≡ (step_equation s).out → AreSlotsUpTo program ends k before → TakesSlot out before at → EndsWire (k + 1) out ends at mid
     → EndsOperands (k + 1) operands ends mid after → AreSlotsUpTo program ends (k + 1) after
 step_followed program ends k out s operands before at mid after held are stands has operands_are is far takes first ended =

@@ -1,5 +1,5 @@
 -- The slots of steps, noted as the steps are taken.
-use Rattle.std.proofs.Common.{◌≡◌, ℕ, ◌+◌, ◌<◌, ◌≤◌, ⊎_elim, inl, inr, List, [], ◌∷◌, ◌++◌, map, length, get_or, refl, sym, ◌∙◌, ap, subst, arith, length-append}
+use Rattle.std.proofs.Common.{◌≡◌, ℕ, ◌+◌, ◌-◌, ◌<◌, ◌≤◌, ⊎_elim, inl, inr, List, [], ◌∷◌, ◌++◌, map, length, get_or, refl, sym, ◌∙◌, ap, subst, arith, length-append}
 use Rattle.std.specs.Prelude.{Some, slice_get, slice_index, Contains}
 use Rattle.std.proofs.Math.ListN.{get_or-append}
 use Rattle.std.proofs.Math.Seq.{get_or-append_seam}
@@ -13,6 +13,7 @@ use Rattle.zk_model.specs.Program.{Term, Program, IsProgram}
 use Rattle.zk_model.specs.declared.Product.{Product}
 use Rattle.zk_model.specs.Slots as plans
 use Rattle.zk_model.specs.Slots.{Reads, IsLive, AreSlotsOf, IsPlanOf}
+use Rattle.field_program.specs.Counts.{unchecked}
 use Rattle.field_program.specs.Rules.{HasFactors}
 use Rattle.field_program.specs.Programs.{IsSmallProgram}
 use Rattle.field_program.specs.Plans.{named, plan_of}
@@ -27,7 +28,7 @@ use Rattle.field_program.specs.declared.step.Step.TheVariants as step
 use Rattle.field_program.specs.Slotting.{IsOperand, operands_of, slots_with, TakesSlot, EndsWire, EndsOperands, KeepsSlots, IsNoted, AreNoted, AreSlotsUpTo, IsFollowed}
 use Rattle.field_program.proofs.Live.{out_live, some_same}
 use Rattle.field_program.proofs.Next.{read_live, step_keeps}
-use Rattle.field_program.proofs.Operands.{only, none_in, first_of, product_is, operands_read, read_set}
+use Rattle.field_program.proofs.Operands.{only, none_in, first_of, second_of, product_is, operands_read, read_set}
 
 -- ---- one step
 
@@ -38,12 +39,24 @@ one_term known term terms are is = only known term (subst (λ l. Contains l term
 not_two : (first second term : Term) → first ∷ second ∷ [] ≡ term ∷ [] → ⊥
 not_two first second term is = let longer : 2 ≡ 1 = ap length is in absurd (omega (arith, longer))
 
+not_one : (first left right : Term) → first ∷ [] ≡ left ∷ right ∷ [] → ⊥
+not_one first left right is = let longer : 1 ≡ 2 = ap length is in absurd (omega (arith, longer))
+
+not_any : (left right : Term) → [] ≡ left ∷ right ∷ [] → ⊥
+not_any left right is = let longer : 0 ≡ 2 = ap length is in absurd (omega (arith, longer))
+
+-- the two terms of a list of two
+both_terms : (places : List ℕ) (first second left right : Term) → first ∷ second ∷ [] ≡ left ∷ right ∷ []
+    → (slice_index places first.place ≡ slice_index places left.place) × (slice_index places second.place ≡ slice_index places right.place)
+both_terms places first second left right is =
+    (ap (λ l. slice_index places (get_or l 0 first).place) is, ap (λ l. slice_index places (get_or l 1 first).place) is)
+
 not_none : (term : Term) → [] ≡ term ∷ [] → ⊥
 not_none term is = let longer : 0 ≡ 1 = ap length is in absurd (omega (arith, longer))
 
 -- the slots of a product that is taken
 taken_slots : (program : Program) (places : List ℕ) (a b number : ℕ) (known term : Term) (product : Product) → IsSmallProgram program
-    → slice_get program.products number ≡ Some (record { a = a; b = b; c = number }) → known.place ≡ number → Contains (known ∷ []) term
+    → slice_get program.products (number - unchecked program) ≡ Some (record { a = a; b = b; c = number }) → known.place ≡ number → Contains (known ∷ []) term
     → Contains program.products product → product.c ≡ term.place
     → (slice_index places a ≡ slice_index places product.a) × (slice_index places b ≡ slice_index places product.b)
 taken_slots program places a b number known term product held at place there among same =
@@ -51,31 +64,42 @@ taken_slots program places a b number known term product held at place there amo
     let is = product_is program number (record { a = a; b = b; c = number }) product held at among (same ∙ sym taken) in
     (ap (λ (p : Product). slice_index places p.a) is, ap (λ (p : Product). slice_index places p.b) is)
 
-slots_are : (program : Program) (places : List ℕ) (s : Step) → IsSmallProgram program → HasFactors program.products s
+slots_are : (program : Program) (places : List ℕ) (s : Step) → IsSmallProgram program → HasFactors program s
     → AreSlotsOf program places (step_equation s) (named (slots_with places (step_equation s).out (operands_of s)))
 slots_are program places (step.Const out value) held has = record {
   out = refl;
   one = λ term is. absurd (not_none term is);
+  both = λ left right is. absurd (not_any left right is);
   factors = λ term product there among same. absurd (none_in [] term refl there);
 }
 slots_are program places (step.Copy out a) held has = record {
   out = refl;
   one = λ term is. ap (λ (t : Term). slice_index places t.place) (one_term (once a) term (once a ∷ []) refl is);
+  both = λ left right is. absurd (not_one (once a) left right is);
   factors = λ term product there among same. absurd (none_in [] term refl there);
 }
 slots_are program places (step.Not out a) held has = record {
   out = refl;
   one = λ term is. ap (λ (t : Term). slice_index places t.place) (one_term (less_once a) term (less_once a ∷ []) refl is);
+  both = λ left right is. absurd (not_one (less_once a) left right is);
+  factors = λ term product there among same. absurd (none_in [] term refl there);
+}
+slots_are program places (step.Add out a b) held has = record {
+  out = refl;
+  one = λ term is. absurd (not_two (once a) (once b) term is);
+  both = λ left right is. both_terms places (once a) (once b) left right is;
   factors = λ term product there among same. absurd (none_in [] term refl there);
 }
 slots_are program places (step.Mul out a b number) held has = record {
   out = refl;
   one = λ term is. absurd (not_none term is);
+  both = λ left right is. absurd (not_any left right is);
   factors = λ term product there among same. taken_slots program places a b number (once number) term product held has refl there among same;
 }
 slots_are program places (step.XorFrom out a b number) held has = record {
   out = refl;
   one = λ term is. absurd (not_two (once a) (once b) term is);
+  both = λ left right is. both_terms places (once a) (once b) left right is;
   factors = λ term product there among same. taken_slots program places a b number (less_twice number) term product held has refl there among same;
 }
 
@@ -89,7 +113,7 @@ slots_there places out count (Two a b) here there = (here, there a (inl refl), t
 
 -- a step that has been taken has the slots that its wires have now
 pub step_noted : (program : Program) (ends : List ℕ) (k out : ℕ) (s : Step) (operands : Operands) (after : Slots) (noted : StepSlots) → IsSmallProgram program
-    → slice_get program.steps k ≡ Some (step_equation s) → HasFactors program.products s → operands ≡ operands_of s → out ≡ (step_equation s).out
+    → slice_get program.steps k ≡ Some (step_equation s) → HasFactors program s → operands ≡ operands_of s → out ≡ (step_equation s).out
     → AreSlotsUpTo program ends (k + 1) after → noted ≡ slots_with after.places.items out operands → IsNoted program k after noted
 step_noted program ends k out s operands after noted held stands has operands_are out_is far is = record {
   are = λ equation at. subst (λ (e : model.Step). AreSlotsOf program places e (named noted))
@@ -119,6 +143,10 @@ slots_kept : (program : Program) (k : ℕ) (places now : List ℕ) (equation : m
 slots_kept program k places now equation slots held stands same are = record {
   out = are.out ∙ sym (same equation.out (out_live program k equation stands));
   one = λ term is. are.one term is ∙ sym (read term.place (inl (term, subst (λ l. Contains l term) (sym is) (first_of term []), refl)));
+  both = λ left right is. let both = are.both left right is in (
+    both.0 ∙ sym (read left.place (inl (left, subst (λ l. Contains l left) (sym is) (first_of left (right ∷ [])), refl))),
+    both.1 ∙ sym (read right.place (inl (right, subst (λ l. Contains l right) (sym is) (second_of left right []), refl))),
+  );
   factors = λ term product there among number. let both = are.factors term product there among number in (
     both.0 ∙ sym (read product.a (inr (term, product, there, among, number, inl refl))),
     both.1 ∙ sym (read product.b (inr (term, product, there, among, number, inr refl))),

@@ -8,6 +8,7 @@ use Rattle.std.proofs.lemmas.Option.{slice_get_within, slice_get-get_or, get_or_
 use Rattle.zk_model.specs.Boolean.{once, less_once, less_twice}
 use Rattle.zk_model.specs.Program.{Term, Step as model, Program, IsSet}
 use Rattle.zk_model.specs.declared.Product.{Product}
+use Rattle.field_program.specs.Counts.{unchecked}
 use Rattle.field_program.specs.Rules.{HasFactors}
 use Rattle.field_program.specs.Programs.{IsSmallProgram, values_taken}
 use Rattle.field_program.specs.Steps.{step_equation}
@@ -33,23 +34,24 @@ none_in xs x none (k, below, is) = absurd (omega (arith, below, none))
 pub first_of : {X : Type 0} (x : X) (xs : List X) → Contains (x ∷ xs) x
 first_of x xs = (0, omega arith, refl)
 
-second_of : {X : Type 0} (x y : X) (xs : List X) → Contains (x ∷ y ∷ xs) y
+pub second_of : {X : Type 0} (x y : X) (xs : List X) → Contains (x ∷ y ∷ xs) y
 second_of x y xs = (1, omega arith, refl)
 
 -- ---- products
 
 -- the product whose value is taken is the one of its number
-pub product_is : (program : Program) (number : ℕ) (known product : Product) → IsSmallProgram program → slice_get program.products number ≡ Some known
-    → Contains program.products product → product.c ≡ number → known ≡ product
+pub product_is : (program : Program) (number : ℕ) (known product : Product) → IsSmallProgram program
+    → slice_get program.products (number - unchecked program) ≡ Some known → Contains program.products product → product.c ≡ number → known ≡ product
 product_is program number known product held at (k, below, is) same =
-    sym (get_or_from_slice_get program.products number known product at) ∙ ap (λ i. get_or program.products i product) place ∙ is
+    sym (get_or_from_slice_get program.products (number - unchecked program) known product at) ∙ ap (λ i. get_or program.products i product) place ∙ is
   where
-    place : number ≡ k
-    place = sym same ∙ held.numbered k product (slice_get-get_or program.products k product below ∙ ap (λ (p : Product). Some p) is)
+    place : number - unchecked program ≡ k
+    place = let numbered = held.numbered k product (slice_get-get_or program.products k product below ∙ ap (λ (p : Product). Some p) is) in
+        omega (arith, same, numbered)
 
 -- ---- what is read is an operand, and the other way round
 
-pub reads_operands : (program : Program) (s : Step) (wire : ℕ) → IsSmallProgram program → HasFactors program.products s
+pub reads_operands : (program : Program) (s : Step) (wire : ℕ) → IsSmallProgram program → HasFactors program s
     → Reads program (step_equation s) wire → IsOperand (operands_of s) wire
 reads_operands program (step.Const out value) wire held has (inl (term, there, is)) = absurd (none_in [] term refl there)
 reads_operands program (step.Const out value) wire held has (inr (term, product, there, among, same, is)) = absurd (none_in [] term refl there)
@@ -57,6 +59,10 @@ reads_operands program (step.Copy out a) wire held has (inl (term, there, is)) =
 reads_operands program (step.Copy out a) wire held has (inr (term, product, there, among, same, is)) = absurd (none_in [] term refl there)
 reads_operands program (step.Not out a) wire held has (inl (term, there, is)) = ap (λ (t : Term). t.place) (only (less_once a) term there) ∙ is
 reads_operands program (step.Not out a) wire held has (inr (term, product, there, among, same, is)) = absurd (none_in [] term refl there)
+reads_operands program (step.Add out a b) wire held has (inl (term, there, is)) =
+    ⊎_elim (λ left. inl (ap (λ (t : Term). t.place) left ∙ is)) (λ right. inr (ap (λ (t : Term). t.place) right ∙ is))
+    (either (once a) (once b) term there)
+reads_operands program (step.Add out a b) wire held has (inr (term, product, there, among, same, is)) = absurd (none_in [] term refl there)
 reads_operands program (step.Mul out a b number) wire held has (inl (term, there, is)) = absurd (none_in [] term refl there)
 reads_operands program (step.Mul out a b number) wire held has (inr (term, product, there, among, same, is)) =
     let taken : number ≡ term.place = ap (λ (t : Term). t.place) (only (once number) term there) in
@@ -70,23 +76,25 @@ reads_operands program (step.XorFrom out a b number) wire held has (inr (term, p
     let known = product_is program number (record { a = a; b = b; c = number }) product held has among (same ∙ sym taken) in
     ⊎_elim (λ left. inl (ap (λ (p : Product). p.a) known ∙ left)) (λ right. inr (ap (λ (p : Product). p.b) known ∙ right)) is
 
--- a product of this number is among all
-among : (products : List Product) (number : ℕ) (product : Product) → slice_get products number ≡ Some product → Contains products product
-among products number product at = (number, slice_get_within products number product at, get_or_from_slice_get products number product product at)
+-- a product at a place is among all
+among : (products : List Product) (place : ℕ) (product : Product) → slice_get products place ≡ Some product → Contains products product
+among products place product at = (place, slice_get_within products place product at, get_or_from_slice_get products place product product at)
 
-pub operands_read : (program : Program) (s : Step) (wire : ℕ) → HasFactors program.products s → IsOperand (operands_of s) wire
+pub operands_read : (program : Program) (s : Step) (wire : ℕ) → HasFactors program s → IsOperand (operands_of s) wire
     → Reads program (step_equation s) wire
 operands_read program (step.Const out value) wire has is = absurd is
 operands_read program (step.Copy out a) wire has is = inl (once a, first_of (once a) [], is)
 operands_read program (step.Not out a) wire has is = inl (less_once a, first_of (less_once a) [], is)
+operands_read program (step.Add out a b) wire has (inl left) = inl (once a, first_of (once a) (once b ∷ []), left)
+operands_read program (step.Add out a b) wire has (inr right) = inl (once b, second_of (once a) (once b) [], right)
 operands_read program (step.Mul out a b number) wire has is =
-    inr (once number, record { a = a; b = b; c = number }, first_of (once number) [], among program.products number _ has, refl, is)
+    inr (once number, record { a = a; b = b; c = number }, first_of (once number) [], among program.products (number - unchecked program) _ has, refl, is)
 operands_read program (step.XorFrom out a b number) wire has (inl left) = inl (once a, first_of (once a) (once b ∷ []), left)
 operands_read program (step.XorFrom out a b number) wire has (inr right) = inl (once b, second_of (once a) (once b) [], right)
 
 -- ---- what is read is set
 
--- steps take no bit checks
+-- steps take no inputs
 takes_late : (steps : List model) (k low : ℕ) (s : model) (term : Term) → All (λ place. low ≤ place) (values_taken steps) → slice_get steps k ≡ Some s
     → Contains s.given term → low ≤ term.place
 takes_late steps k low s term late at there =

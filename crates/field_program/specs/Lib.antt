@@ -1,3 +1,4 @@
+pub mod Counts
 pub mod Rules
 pub mod Programs
 pub mod Steps

@@ -17,6 +17,7 @@ abbrev pub operands_of : Step → Operands
 operands_of (step.Const out value) = None
 operands_of (step.Copy out a) = One a
 operands_of (step.Not out a) = One a
+operands_of (step.Add out a b) = Two a b
 operands_of (step.Mul out a b product) = Two a b
 operands_of (step.XorFrom out a b product) = Two a b
 

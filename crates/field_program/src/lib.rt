@@ -14,7 +14,7 @@ mod program;
 mod slots;
 mod step;
 
-pub use packed_gates::{Factors, PackedStep};
+pub use packed_gates::{Factors, PackedStep, Tables};
 pub use plan::{SlotPlan, StepSlots};
 pub use program::FieldProgram;
 pub use step::Step;

@@ -5,14 +5,14 @@ ghost use Rattle.field_program.specs.Rules.{step_of};
 
 use crate::step::Step;
 use mersenne_field::Fe;
-use packed_gates::{Factors, PackedStep};
+use packed_gates::{Factors, PackedStep, Tables};
 
-/// The step that a rule says, where these are the factors of the products behind so many bit checks.
+/// The step that a rule says, whose given value comes behind those of so many inputs.
 #[inline(always)]
-pub(crate) fn step_of(rule: PackedStep, inputs: u32, factors: &[Factors]) -> Step
-    requires within { IsRule (length factors.now) rule }
-    requires fits { inputs + length factors.now < 2 ^ 32 }
-    ensures { result ≡ step_of inputs factors.now rule }
+pub(crate) fn step_of(rule: PackedStep, inputs: u32, tables: &Tables) -> Step
+    requires within { IsRule tables.now rule }
+    requires fits { inputs + length tables.now.factors.items < 2 ^ 32 }
+    ensures { result ≡ step_of inputs tables.now rule }
 {
     match rule {
         PackedStep::Bit { out, value } => Step::Const {
@@ -22,14 +22,23 @@ pub(crate) fn step_of(rule: PackedStep, inputs: u32, factors: &[Factors]) -> Ste
         PackedStep::Copy { out, a } => Step::Copy { out, a },
         PackedStep::Not { out, a } => Step::Not { out, a },
         PackedStep::Mul { out, product } => {
-            let Factors { a, b } = factors[product as usize];
+            let Factors { a, b } = tables.factors[product as usize];
             let product = inputs + product;
             Step::Mul { out, a, b, product }
         }
         PackedStep::XorFrom { out, product } => {
-            let Factors { a, b } = factors[product as usize];
+            let Factors { a, b } = tables.factors[product as usize];
             let product = inputs + product;
             Step::XorFrom { out, a, b, product }
         }
+        PackedStep::Sum { out, sum } => {
+            let Factors { a, b } = tables.sums[sum as usize];
+            Step::Add { out, a, b }
+        }
+        PackedStep::Const { out, constant } => {
+            let value = tables.constants[constant as usize];
+            Step::Const { out, value }
+        }
+        PackedStep::Assert { .. } => unreachable!(),
     }
 }

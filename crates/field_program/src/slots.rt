@@ -38,7 +38,9 @@ fn operands_of(step: &Step) -> Operands
     match *step {
         Step::Const { .. } => Operands::None,
         Step::Copy { a, .. } | Step::Not { a, .. } => Operands::One(a),
-        Step::Mul { a, b, .. } | Step::XorFrom { a, b, .. } => Operands::Two(a, b),
+        Step::Add { a, b, .. } | Step::Mul { a, b, .. } | Step::XorFrom { a, b, .. } => {
+            Operands::Two(a, b)
+        }
     }
 }
 

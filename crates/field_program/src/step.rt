@@ -5,7 +5,7 @@ ghost use Rattle.field_program.specs.Steps.{step_equation, value_taken};
 use mersenne_field::Fe;
 
 /// How the number of a wire comes from those of earlier wires and of the given values. `product` is the number of the
-/// given value, and of the correlation that authenticates it; of the wires `a` and `b` it is the product.
+/// given value, and of the correlation that authenticates it; it is the product of the wires `a` and `b`.
 #[derive(Clone, Copy, Debug, PartialEq, Eq)]
 pub enum Step {
     /// The constant.
@@ -22,6 +22,12 @@ pub enum Step {
     Not {
         out: u32,
         a: u32,
+    },
+    /// The sum of those of `a` and `b`.
+    Add {
+        out: u32,
+        a: u32,
+        b: u32,
     },
     /// The given value.
     Mul {
@@ -46,7 +52,7 @@ impl Step {
     {
         match *self {
             Step::Mul { product, .. } | Step::XorFrom { product, .. } => Some(product),
-            Step::Const { .. } | Step::Copy { .. } | Step::Not { .. } => None,
+            Step::Const { .. } | Step::Copy { .. } | Step::Not { .. } | Step::Add { .. } => None,
         }
     }
 
@@ -58,6 +64,7 @@ impl Step {
             Step::Const { out, .. }
             | Step::Copy { out, .. }
             | Step::Not { out, .. }
+            | Step::Add { out, .. }
             | Step::Mul { out, .. }
             | Step::XorFrom { out, .. } => out,
         }

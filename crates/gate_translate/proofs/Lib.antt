@@ -1,1 +1,3 @@
 pub mod Translating
+pub mod Splitting
+pub mod ArithTranslating

@@ -1,5 +1,5 @@
 -- From the packed gates of a circuit to its program.
-use Rattle.std.proofs.Common.{◌≡◌, ℕ, suc, ◌+◌, ◌-◌, ◌<◌, ◌≤◌, List, [], ◌∷◌, ◌++◌, length, map, flat_map, refl, sym, ap, ◌∙◌, arith, subst, add-zero, length-append}
+use Rattle.std.proofs.Common.{◌≡◌, ℕ, suc, ◌+◌, ◌-◌, ◌<◌, ◌≤◌, List, [], ◌∷◌, ◌++◌, length, map, flat_map, drop, inl, refl, sym, ap, ◌∙◌, arith, subst, add-zero, length-append}
 use Rattle.std.specs.Prelude.{sum_by, Some, slice_get}
 use Rattle.std.proofs.lemmas.Option.{get_or_from_slice_get}
 use Rattle.std.specs.List.{range_with_len}
@@ -16,9 +16,11 @@ use Rattle.zk_model.specs.declared.Product.{Product}
 use Rattle.circuit_laws.proofs.ByGate.{from_given, by_gate_is, products_of_all}
 use Rattle.circuit_laws.specs.Circuits.{CircuitIsProgram, CircuitIsOrdered, GatesAreFew}
 use Rattle.bristol_reader.specs.Circuits.{IsCircuit}
-use Rattle.packed_gates.specs.PackedSteps.{ArePacked, rules_from}
+use Rattle.packed_gates.specs.PackedSteps.{ArePacked, IsGateRule, IsRule, factors_of, rules_from}
 use Rattle.packed_gates.specs.declared.packed.Factors.{Factors}
 use Rattle.packed_gates.specs.declared.packed.PackedStep.{PackedStep}
+use Rattle.packed_gates.specs.declared.packed.PackedStep.TheVariants as rule
+use Rattle.packed_gates.specs.declared.packed.Tables.{Tables}
 use Rattle.packed_gates.proofs.Packing.{factors_in, factors_behind, one_over, one_longer}
 use Rattle.field_program.proofs.Numbered.{length-products_with}
 use Rattle.field_program.specs.Programs.{IsSmallProgram, program_of, products_with, values_taken}
@@ -36,43 +38,54 @@ products_up_to public inputs gates = map (bit_check public) (range_with_len 0 in
 
 -- ---- steps and products of packed gates
 
--- the steps of the other gates, behind one that has a product
-steps_behind : (inputs : ℕ) (before : List Factors) (next : Factors) (gates : List GateRow)
-    → equations (map (step_of inputs (before ++ next ∷ [] ++ factors_in gates)) (rules_from (length (before ++ next ∷ [])) gates))
-    ≡ from_given gate_step (inputs + length (before ++ next ∷ [])) gates
-    → equations (map (step_of inputs (before ++ (next ∷ factors_in gates))) (rules_from (length before + 1) gates))
-    ≡ from_given gate_step (inputs + length before + 1) gates
-steps_behind inputs before next gates far =
-    sym (λ i. equations (map (step_of inputs (one_over before next (factors_in gates) i)) (rules_from (one_longer before next i) gates)))
+-- the steps of these gates behind others, whose factors come first in the tables
+StepsFrom : ℕ → Tables → List Factors → List GateRow → Type 0
+StepsFrom inputs tables before gates =
+    equations (map (step_of inputs tables) (rules_from (length before) gates)) ≡ from_given gate_step (inputs + length before) gates
+
+-- those of the other gates, behind one that has a product
+steps_behind : (inputs : ℕ) (tables : Tables) (before : List Factors) (next : Factors) (gates : List GateRow) → StepsFrom inputs tables (before ++ next ∷ []) gates
+    → equations (map (step_of inputs tables) (rules_from (length before + 1) gates)) ≡ from_given gate_step (inputs + length before + 1) gates
+unfolding StepsFrom
+steps_behind inputs tables before next gates far =
+    ap (λ n. equations (map (step_of inputs tables) (rules_from n gates))) (sym (one_longer before next))
     ∙ far ∙ ap (λ n. from_given gate_step n gates) same
   where
     same : inputs + length (before ++ next ∷ []) ≡ inputs + length before + 1
     same = omega (arith, one_longer before next)
 
 -- and behind one that has none
-steps_same : (inputs : ℕ) (before : List Factors) (gates : List GateRow)
-    → equations (map (step_of inputs (before ++ factors_in gates)) (rules_from (length before) gates)) ≡ from_given gate_step (inputs + length before) gates
-    → equations (map (step_of inputs (before ++ factors_in gates)) (rules_from (length before + 0) gates)) ≡ from_given gate_step (inputs + length before + 0) gates
-steps_same inputs before gates far =
-    ap (λ n. equations (map (step_of inputs (before ++ factors_in gates)) (rules_from n gates))) (add-zero (length before))
+steps_same : (inputs : ℕ) (tables : Tables) (before : List Factors) (gates : List GateRow) → StepsFrom inputs tables before gates
+    → equations (map (step_of inputs tables) (rules_from (length before + 0) gates)) ≡ from_given gate_step (inputs + length before + 0) gates
+unfolding StepsFrom
+steps_same inputs tables before gates far =
+    ap (λ n. equations (map (step_of inputs tables) (rules_from n gates))) (add-zero (length before))
     ∙ far ∙ ap (λ n. from_given gate_step n gates) (sym (add-zero (inputs + length before)))
 
-steps_are : (inputs : ℕ) (before : List Factors) (gates : List GateRow)
-    → equations (map (step_of inputs (before ++ factors_in gates)) (rules_from (length before) gates)) ≡ from_given gate_step (inputs + length before) gates
-steps_are inputs before [] = refl
-steps_are inputs before (And a b out ∷ gates) =
+-- the factors of the next product
+next_factors : (tables : Tables) (before : List Factors) (next : Factors) (others : List Factors) → tables.factors.items ≡ before ++ (next ∷ others)
+    → factors_of tables.factors.items (length before) ≡ next
+next_factors tables before next others are = ap (λ l. factors_of l (length before)) are ∙ factors_behind before next others
+
+steps_are : (inputs : ℕ) (tables : Tables) (before : List Factors) (gates : List GateRow) → tables.factors.items ≡ before ++ factors_in gates
+    → StepsFrom inputs tables before gates
+unfolding StepsFrom
+steps_are inputs tables before [] are = refl
+steps_are inputs tables before (And a b out ∷ gates) are =
     let next : Factors = record { a = a; b = b } in
-    λ i. gate_step (inputs + length before) (And a b out) ∷ steps_behind inputs before next gates (steps_are inputs (before ++ next ∷ []) gates) i
-steps_are inputs before (Xor a b out ∷ gates) =
+    λ i. gate_step (inputs + length before) (And a b out)
+    ∷ steps_behind inputs tables before next gates (steps_are inputs tables (before ++ next ∷ []) gates (are ∙ sym (one_over before next (factors_in gates)))) i
+steps_are inputs tables before (Xor a b out ∷ gates) are =
     let next : Factors = record { a = a; b = b } in
-    let at = factors_behind before next (factors_in gates) in
-    λ i. step_equation (step.XorFrom out (at i).a (at i).b (inputs + length before)) ∷ steps_behind inputs before next gates (steps_are inputs (before ++ next ∷ []) gates) i
-steps_are inputs before (Inv a out ∷ gates) =
-    λ i. gate_step (inputs + length before) (Inv a out) ∷ steps_same inputs before gates (steps_are inputs before gates) i
-steps_are inputs before (Eqw a out ∷ gates) =
-    λ i. gate_step (inputs + length before) (Eqw a out) ∷ steps_same inputs before gates (steps_are inputs before gates) i
-steps_are inputs before (Eq bit out ∷ gates) =
-    λ i. gate_step (inputs + length before) (Eq bit out) ∷ steps_same inputs before gates (steps_are inputs before gates) i
+    let at = next_factors tables before next (factors_in gates) are in
+    λ i. step_equation (step.XorFrom out (at i).a (at i).b (inputs + length before))
+    ∷ steps_behind inputs tables before next gates (steps_are inputs tables (before ++ next ∷ []) gates (are ∙ sym (one_over before next (factors_in gates)))) i
+steps_are inputs tables before (Inv a out ∷ gates) are =
+    λ i. gate_step (inputs + length before) (Inv a out) ∷ steps_same inputs tables before gates (steps_are inputs tables before gates are) i
+steps_are inputs tables before (Eqw a out ∷ gates) are =
+    λ i. gate_step (inputs + length before) (Eqw a out) ∷ steps_same inputs tables before gates (steps_are inputs tables before gates are) i
+steps_are inputs tables before (Eq bit out ∷ gates) are =
+    λ i. gate_step (inputs + length before) (Eq bit out) ∷ steps_same inputs tables before gates (steps_are inputs tables before gates are) i
 
 products_are : (c : ℕ) (gates : List GateRow) → numbered c (factors_in gates) ≡ products_from c gates
 products_are c [] = refl
@@ -116,25 +129,32 @@ next_given public inputs gates products are =
     ap length are ∙ length-append (map (bit_check public) (range_with_len 0 inputs)) (products_from inputs gates)
     ∙ (λ i. (length-map (range_with_len 0 inputs) (bit_check public) ∙ length-range_with_len 0 inputs) i + count_from inputs gates i)
 
+-- nothing is dropped
+drop_none : {A : Type 0} (l : List A) → drop 0 l ≡ l
+drop_none [] = refl
+drop_none (x ∷ l) = refl
+
 -- ---- all gates
 
-pub is_translated : (circuit : Circuit) (wires public inputs : ℕ) (rules : List PackedStep) (factors : List Factors) (opened : List ℕ)
+pub is_translated : (circuit : Circuit) (wires public inputs : ℕ) (rules : List PackedStep) (tables : Tables) (opened : List ℕ)
     → wires ≡ circuit.wires → inputs ≡ private_inputs public circuit
     → opened ≡ map (λ o. circuit.wires - circuit.outputs + o) (range_with_len 0 circuit.outputs)
-    → ArePacked circuit.gates rules factors → program_of wires public inputs rules factors opened ≡ circuit_program public circuit
-is_translated circuit wires public inputs rules factors opened w private o packed =
+    → ArePacked circuit.gates rules tables.factors.items → program_of wires public inputs 0 rules tables opened ≡ circuit_program public circuit
+unfolding StepsFrom
+is_translated circuit wires public inputs rules tables opened w private o packed =
+    let factors : List Factors = tables.factors.items in
     let base : inputs + 0 ≡ private_inputs public circuit = omega (arith, private) in
-    let steps : equations (map (step_of inputs factors) rules) ≡ (circuit_program public circuit).steps =
-    (λ i. equations (map (step_of inputs (packed.factors_are i)) (packed.rules_are i)))
-    ∙ steps_are inputs [] circuit.gates ∙ ap (λ k. from_given gate_step k circuit.gates) base ∙ sym (by_gate_is gate_step public circuit) in
-    let up_to : products_with public inputs factors ≡ products_up_to public inputs circuit.gates =
-    ap (products_with public inputs) packed.factors_are
-    ∙ ap (λ l. map (bit_check public) (range_with_len 0 inputs) ++ l) (products_are inputs circuit.gates) in
-    let products : products_with public inputs factors ≡ circuit_products public circuit =
+    let steps : equations (map (step_of inputs tables) rules) ≡ (circuit_program public circuit).steps =
+    ap (λ l. equations (map (step_of inputs tables) l)) packed.rules_are
+    ∙ steps_are inputs tables [] circuit.gates packed.factors_are ∙ ap (λ k. from_given gate_step k circuit.gates) base ∙ sym (by_gate_is gate_step public circuit) in
+    let up_to : products_with public inputs 0 factors ≡ products_up_to public inputs circuit.gates =
+    ap (products_with public inputs 0) packed.factors_are
+    ∙ (λ i. drop_none (map (bit_check public) (range_with_len 0 inputs)) i ++ products_are inputs circuit.gates i) in
+    let products : products_with public inputs 0 factors ≡ circuit_products public circuit =
     up_to ∙ ap (λ k. products_up_to public k circuit.gates) private
     ∙ ap (λ (lists : List (List Product)). map (bit_check public) (range_with_len 0 (private_inputs public circuit)) ++ flat_map (λ products. products) lists) (sym (by_gate_is gate_products public circuit)) in
     let givens : inputs + length factors ≡ private_inputs public circuit + sum_by products_in circuit.gates =
-    omega (arith, next_given public inputs circuit.gates (products_with public inputs factors) up_to, length-products_with public inputs factors, private) in
+    omega (arith, next_given public inputs circuit.gates (products_with public inputs 0 factors) up_to, length-products_with public inputs 0 factors (omega arith), private) in
     λ j. record {
       wires = w j;
       public = public;
@@ -144,6 +164,17 @@ is_translated circuit wires public inputs rules factors opened w private o packe
       products = products j;
       opened = o j;
     }
+
+-- what a Boolean gate's rule names is in the tables
+pub gate_rule_within : (tables : Tables) (r : PackedStep) → IsGateRule (length tables.factors.items) r → IsRule tables r
+gate_rule_within tables (rule.Bit out value) within = tt
+gate_rule_within tables (rule.Copy out a) within = tt
+gate_rule_within tables (rule.Not out a) within = tt
+gate_rule_within tables (rule.Mul out product) within = within
+gate_rule_within tables (rule.XorFrom out product) within = within
+gate_rule_within tables (rule.Sum out sum) within = absurd within
+gate_rule_within tables (rule.Const out constant) within = absurd within
+gate_rule_within tables (rule.Assert a) within = absurd within
 
 -- ---- in order
 
@@ -191,8 +222,9 @@ is_held circuit public program law order few rules known same numbers = subst Is
   wires = rules.wires;
   givens = omega (arith, few_products circuit.gates, few circuit rules.well_formed, rules.wires);
   products = omega (arith, count, few_products circuit.gates, few circuit rules.well_formed, rules.wires);
-  counted = count;
-  numbered = λ i product at. numbers i product (ap (λ (p : Program). slice_get p.products i) same ∙ at);
+  counted = omega (arith, count);
+  all_or_none = inl (omega (arith, count));
+  numbered = λ i product at. numbers i product (ap (λ (p : Program). slice_get p.products i) same ∙ at) ∙ omega (arith, count);
   opened = omega (
     arith,
     length-map (range_with_len 0 circuit.outputs) (λ o. circuit.wires - circuit.outputs + o),
@@ -200,9 +232,10 @@ is_held circuit public program law order few rules known same numbers = subst Is
     rules.well_formed.outputs_within,
     rules.wires,
   );
-  checks = λ i product below at.
-      let is = checks_first public (private_inputs public circuit) i (flat_map (λ products. products) (by_gate public circuit gate_products)) product below at in
-      (ap (λ (p : Product). p.a) is, ap (λ (p : Product). p.b) is);
+  checks = λ i product at below.
+      let number : product.c ≡ i = numbers i product (ap (λ (p : Program). slice_get p.products i) same ∙ at) in
+      let is = checks_first public (private_inputs public circuit) i (flat_map (λ products. products) (by_gate public circuit gate_products)) product (omega (arith, number, below)) at in
+      (ap (λ (p : Product). p.a) is ∙ omega (arith, number), ap (λ (p : Product). p.b) is ∙ omega (arith, number));
   taken = ap values_taken (by_gate_is gate_step public circuit) ∙ taken_from (private_inputs public circuit) circuit.gates
       ∙ ap (range_with_len (private_inputs public circuit)) (behind (private_inputs public circuit) (products_of_all circuit.gates));
 })

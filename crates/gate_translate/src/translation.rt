@@ -1,15 +1,15 @@
-// From a circuit to its program.
+// From a Boolean circuit to its program.
 ghost use Rattle.std.specs.Prelude.{◌≡◌, ◌≤◌, ◌+◌, ◌-◌, map, IfOk};
 ghost use Rattle.std.specs.List.{range_with_len};
 ghost use Rattle.zk_model.specs.Boolean.{circuit_program};
 
 use bristol_reader::Circuit;
 use circuit_laws::{circuit_is_ordered, circuit_is_program, gates_are_few};
-use field_program::FieldProgram;
+use field_program::{FieldProgram, Tables};
 use std::alloc::{AllocError, Global};
 
 /// The last wires, so many of them.
-fn last_wires(alloc: Global, wires: u32, count: u32) -> Result<Vec<u32>, AllocError>
+pub(crate) fn last_wires(alloc: Global, wires: u32, count: u32) -> Result<Vec<u32>, AllocError>
     requires { count ≤ wires }
     ensures { IfOk result (λ v. v.items ≡ map (λ o. wires - count + o) (range_with_len 0 count)) }
 {
@@ -40,7 +40,12 @@ pub fn translate_public(
     let private = circuit.inputs() as u32 - public;
     let opened = last_wires(alloc, wires, circuit.outputs() as u32)?;
     let (rules, factors) = circuit.into_gates().into_parts();
-    Ok(FieldProgram::from_parts(wires, public, private, rules, factors, opened))
+    let tables = Tables {
+        factors,
+        sums: Vec::new(alloc),
+        constants: Vec::new(alloc),
+    };
+    Ok(FieldProgram::from_parts(wires, public, private, 0, rules, tables, opened))
 }
 
 /// The program of a circuit, all of whose inputs are private.

@@ -64,7 +64,7 @@ pub walked_triple : (program : Program) (public inputs : List ℕ) (dealt : List
     → (left ≡ slice_index (wires_made program public inputs) product.a) × (right ≡ slice_index (wires_made program public inputs) product.b)
     → (left_mac ≡ slice_index (numbers_carried 0 program public (take program.givens (macs_of dealt))) product.a)
     × (right_mac ≡ slice_index (numbers_carried 0 program public (take program.givens (macs_of dealt))) product.b)
-    → value ≡ given_value program (wires_made program public inputs) product → mac ≡ slice_index (macs_of dealt) i
+    → value ≡ given_value program (wires_made program public inputs) product → mac ≡ slice_index (macs_of dealt) product.c
     → record {
       a = record { x = left; m = left_mac };
       b = record { x = right; m = right_mac };
@@ -82,16 +82,16 @@ walked_triple program public inputs dealt i left right left_mac right_mac value 
     b_is : record { x = right; m = right_mac } ≡ pair_at (side_made program public inputs dealt).pairs.wires product.b
     b_is = wire_pair program public inputs dealt product.b right right_mac held p few enough within.1 values.1 macs.1
 
-    inside : i < length dealt
-    inside = omega (arith, slice_get_within program.products i product stands, held.counted, enough)
+    inside : product.c < length dealt
+    inside = omega (arith, slice_get_within program.products i product stands, held.numbered i product stands, held.counted, enough)
 
     pair : Pair
-    pair = get_or dealt i (record { x = 0; m = 0 })
+    pair = get_or dealt product.c (record { x = 0; m = 0 })
 
     c_is : record { x = value; m = mac } ≡ pair_at (side_made program public inputs dealt).pairs.given product.c
-    c_is = (λ j. record { x = is j; m = (mac_is ∙ get_or-map (λ (p : Pair). p.m) dealt i (record { x = 0; m = 0 }) 0 inside) j })
-        ∙ sym (given_pair_at program (wires_made program public inputs) dealt i product pair stands inside (get_or_default dealt i (record { x = 0; m = 0 }) pair inside))
-        ∙ ap (pair_at (side_made program public inputs dealt).pairs.given) (sym (held.numbered i product stands))
+    c_is = (λ j. record { x = is j; m = (mac_is ∙ get_or-map (λ (p : Pair). p.m) dealt product.c (record { x = 0; m = 0 }) 0 inside) j })
+        ∙ sym (given_pair_at program (wires_made program public inputs) dealt i product pair held stands inside
+        (get_or_default dealt product.c (record { x = 0; m = 0 }) pair inside))
 
 -- an opened pair
 pub walked_output : (program : Program) (public inputs : List ℕ) (dealt : List Pair) (o x m : ℕ) → IsSmallProgram program → length public ≡ program.public

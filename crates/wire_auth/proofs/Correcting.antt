@@ -1,14 +1,14 @@
 -- So many corrections, made one after another.
-use Rattle.std.proofs.Common.{◌≡◌, ◌<◌, ◌≤◌, ◌+◌, ◌∙◌, ℕ, List, All, arith, length, take, ap, sym, subst, ⊎_elim}
+use Rattle.std.proofs.Common.{◌≡◌, ◌<◌, ◌≤◌, ◌+◌, ◌∙◌, ℕ, zero, suc, List, [], ◌∷◌, All, arith, length, take, ap, refl, sym, subst, ⊎_elim}
 use Rattle.std.proofs.lemmas.Bool.{cases_lt}
-use Rattle.std.proofs.lemmas.List.{take_all, length-map}
+use Rattle.std.proofs.lemmas.List.{take_all, get_or-take, length-map}
 use Rattle.std.proofs.lemmas.List.Elements.{All-map}
-use Rattle.std.specs.Prelude.{Bool, ◌&&◌}
+use Rattle.std.specs.Prelude.{Bool, ◌&&◌, slice_index}
 use Rattle.zk_model.specs.Bits.{from_bit}
 use Rattle.zk_model.specs.Boolean.{bits_of_products}
 use Rattle.zk_model.specs.Circuit.{bit_of}
 use Rattle.zk_model.specs.declared.Product.{Product}
-use Rattle.zk_model.specs.Field.{IsElement}
+use Rattle.zk_model.specs.Field.{IsElement, ◌-ₚ◌}
 use Rattle.zk_model.specs.HonestProver.{honest_corrections}
 use Rattle.zk_model.specs.Mac.{Pair, macs_of, corrected_pairs}
 use Rattle.zk_model.specs.Program.{Program}
@@ -20,6 +20,7 @@ use Rattle.wire_auth.specs.Walks.{side_made}
 use Rattle.wire_auth.proofs.BothWalks.{values_made, macs_made}
 use Rattle.wire_auth.proofs.Joined.{joined_is_corrected, are_pairs}
 use Rattle.wire_auth.proofs.Lengths.{length-honest_corrections}
+use Rattle.wire_auth.proofs.Making.{length-given_from}
 
 -- one more of the given values is an element
 pub one_more : (P : ℕ → Type 0) (n : ℕ) → ((k : ℕ) → k < n → P k) → P n → (k : ℕ) → k < n + 1 → P k
@@ -28,15 +29,35 @@ one_more P n before now k below = ⊎_elim
     (λ past. let same : n ≡ k = omega (arith, past, below) in subst P same now)
     (cases_lt k n)
 
--- all corrections to given values, of which each product has one, once as many are made as there are products
-pub all_made : (program : Program) (given corrections : List ℕ) (dealt : List Pair) (n : ℕ) → length given ≡ length program.products
-    → length program.products ≡ program.givens → program.givens ≤ length dealt → length program.products ≤ n
+-- all corrections to given values, once as many are made as there are
+pub all_made : (given corrections : List ℕ) (dealt : List Pair) (count n : ℕ) → length given ≡ count → count ≤ length dealt → count ≤ n
     → corrections ≡ take n (honest_corrections given dealt)
-    → (corrections ≡ honest_corrections given dealt) × (length corrections ≡ program.givens)
-all_made program given corrections dealt n sized counted enough end far =
-    let all = length-honest_corrections given dealt (omega (arith, sized, counted, enough)) in
+    → (corrections ≡ honest_corrections given dealt) × (length corrections ≡ count)
+all_made given corrections dealt count n sized enough end far =
+    let all = length-honest_corrections given dealt (omega (arith, sized, enough)) in
     let are = far ∙ take_all n (honest_corrections given dealt) (omega (arith, sized, all, end)) in
-    (are, ap length are ∙ all ∙ sized ∙ counted)
+    (are, ap length are ∙ all ∙ sized)
+
+-- the first given values are the inputs
+pub first_values : (inputs given : List ℕ) (k count : ℕ) → k < count → take count given ≡ inputs → slice_index inputs k ≡ slice_index given k
+first_values inputs given k count below same = ap (λ l. slice_index l k) (sym same) ∙ get_or-take count given k 0 below
+
+-- so their corrections are the first
+pub first_corrections : (inputs given : List ℕ) (dealt : List Pair) (some count : ℕ) → some ≤ count → take count given ≡ inputs
+    → take some (honest_corrections inputs dealt) ≡ take some (honest_corrections given dealt)
+first_corrections inputs given dealt some count few same = ap (λ l. take some (honest_corrections l dealt)) (sym same) ∙ by given dealt some count few
+  where
+    by : (given : List ℕ) (dealt : List Pair) (some count : ℕ) → some ≤ count
+        → take some (honest_corrections (take count given) dealt) ≡ take some (honest_corrections given dealt)
+    by given dealt zero count few = none (honest_corrections (take count given) dealt) ∙ sym (none (honest_corrections given dealt))
+      where
+        none : (l : List ℕ) → take 0 l ≡ []
+        none [] = refl
+        none (x ∷ l) = refl
+    by given dealt (suc some) zero few = absurd (omega (arith, few))
+    by [] dealt (suc some) (suc count) few = refl
+    by (x ∷ given) [] (suc some) (suc count) few = refl
+    by (x ∷ given) (pair ∷ dealt) (suc some) (suc count) few = ap (λ l. (x -ₚ pair.x) ∷ l) (by given dealt some count (omega (arith, few)))
 
 -- they make the given values' pairs of the dealt ones
 pub walked_given : (program : Program) (public inputs corrections : List ℕ) (dealt : List Pair)
@@ -75,3 +96,11 @@ unfolding given_made
 bits_walked program public inputs bits corrections dealt made are =
     let walked = are ∙ ap (λ (l : List ℕ). honest_corrections l dealt) (sym made) in
     (walked, walked_given program public inputs corrections dealt (subst (All IsElement) (sym made) (bits_are_elements program.products bits)) walked)
+
+-- and there is one for each given value
+pub bits_for_all : (program : Program) (public inputs : List ℕ) (bits : List Bool) → IsSmallProgram program
+    → given_made program public inputs ≡ bits_of_products program.products bits → length program.products ≡ program.givens
+unfolding given_made
+bits_for_all program public inputs bits held made =
+    sym (length-bits_of_products program.products bits) ∙ ap length (sym made)
+    ∙ length-given_from program (wires_made program public inputs) held.counted

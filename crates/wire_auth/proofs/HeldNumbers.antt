@@ -11,6 +11,7 @@ use Rattle.zk_model.specs.Program.{Term, Step as model, Program, IsSet, MeetsSte
 use Rattle.std.proofs.Math.Nat.{eq-or-lt_of_le}
 use Rattle.zk_model.specs.Slots.{Plan, AreSlotsOf, IsPlanOf, IsLive, IsSetAt, Reads}
 use Rattle.zk_model.specs.Boolean.{once, less_once, less_twice}
+use Rattle.field_program.specs.Counts.{unchecked}
 use Rattle.field_program.specs.Rules.{HasFactors}
 use Rattle.field_program.specs.Plans.{named}
 use Rattle.field_program.specs.Programs.{IsSmallProgram, values_taken}
@@ -46,22 +47,25 @@ read_before program k wire equation held stands reads = by (read_set program k w
     }
 
 pub read_in : (program : Program) (places : List ℕ) (k : ℕ) (s : Step) (at : StepSlots) (wires slots : List ℕ) → IsSmallProgram program
-    → slice_get program.steps k ≡ Some (step_equation s) → HasFactors program.products s → AreSlotsOf program places (step_equation s) (named at)
+    → slice_get program.steps k ≡ Some (step_equation s) → HasFactors program s → AreSlotsOf program places (step_equation s) (named at)
     → AreHeldAt program places k wires slots → AreReadIn at slots wires s
 read_in program places k s at wires slots held stands has of are = by s has of (λ wire operand. are wire (read_before program k wire (step_equation s) held stands (operands_read program s wire has operand)))
   where
-    there : (a b number : ℕ) → slice_get program.products number ≡ Some (record { a = a; b = b; c = number })
+    there : (a b number i : ℕ) → slice_get program.products i ≡ Some (record { a = a; b = b; c = number })
         → Contains program.products (record { a = a; b = b; c = number })
-    there a b number stands = (number, slice_get_within program.products number _ stands, get_or_from_slice_get program.products number _ _ stands)
+    there a b number i stands = (i, slice_get_within program.products i _ stands, get_or_from_slice_get program.products i _ _ stands)
 
-    by : (s : Step) → HasFactors program.products s → AreSlotsOf program places (step_equation s) (named at)
+    by : (s : Step) → HasFactors program s → AreSlotsOf program places (step_equation s) (named at)
         → ((wire : ℕ) → IsOperand (operands_of s) wire → slice_index slots (slice_index places wire) ≡ slice_index wires wire) → AreReadIn at slots wires s
     by (step.Const out value) has of read = tt
     by (step.Copy out a) has of read = ap (slice_index slots) (of.one (once a) refl) ∙ read a refl
     by (step.Not out a) has of read = ap (slice_index slots) (of.one (less_once a) refl) ∙ read a refl
+    by (step.Add out a b) has of read =
+        let both = of.both (once a) (once b) refl in
+        (ap (slice_index slots) both.0 ∙ read a (inl refl), ap (slice_index slots) both.1 ∙ read b (inr refl))
     by (step.Mul out a b number) has of read = tt
     by (step.XorFrom out a b number) has of read =
-        let both = of.factors (less_twice number) (record { a = a; b = b; c = number }) (0, omega arith, refl) (there a b number has) refl in
+        let both = of.factors (less_twice number) (record { a = a; b = b; c = number }) (0, omega arith, refl) (there a b number (number - unchecked program) has) refl in
         (ap (slice_index slots) both.0 ∙ read a (inl refl), ap (slice_index slots) both.1 ∙ read b (inr refl))
 
 -- the value that a step takes is that of its equation's term
@@ -69,6 +73,7 @@ pub taken_is : (given : List ℕ) (s : Step) (taken : ℕ) → IsTakenBy given (
 taken_is given (step.Const out value) taken is = tt
 taken_is given (step.Copy out a) taken is = tt
 taken_is given (step.Not out a) taken is = tt
+taken_is given (step.Add out a b) taken is = tt
 taken_is given (step.Mul out a b product) taken is = is 0 (once product) (omega arith)
 taken_is given (step.XorFrom out a b product) taken is = is 0 (less_twice product) (omega arith)
 
@@ -119,6 +124,7 @@ pub takes_none : (s : Step) → false ≡ is_some (value_taken s) → (step_equa
 takes_none (step.Const out value) is = refl
 takes_none (step.Copy out a) is = refl
 takes_none (step.Not out a) is = refl
+takes_none (step.Add out a b) is = refl
 takes_none (step.Mul out a b product) is = absurd (false≢true is)
 takes_none (step.XorFrom out a b product) is = absurd (false≢true is)
 
@@ -178,5 +184,6 @@ pub one_value : (s : Step) → 1 ≤ length (step_equation s).given → length (
 one_value (step.Const out value) some = absurd (omega (arith, some))
 one_value (step.Copy out a) some = absurd (omega (arith, some))
 one_value (step.Not out a) some = absurd (omega (arith, some))
+one_value (step.Add out a b) some = absurd (omega (arith, some))
 one_value (step.Mul out a b product) some = refl
 one_value (step.XorFrom out a b product) some = refl

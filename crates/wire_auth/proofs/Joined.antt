@@ -1,5 +1,5 @@
 -- Values and MACs, one by one.
-use Rattle.std.proofs.Common.{◌≡◌, ℕ, zero, suc, ◌<◌, ◌≤◌, All, List, [], ◌∷◌, length, take, get_or, refl, ap, sym, ◌∙◌, arith, subst}
+use Rattle.std.proofs.Common.{◌≡◌, ℕ, zero, suc, ◌+◌, ◌<◌, ◌≤◌, All, List, [], ◌∷◌, length, take, get_or, refl, ap, sym, ◌∙◌, arith, subst}
 use Rattle.std.specs.Prelude.{Some, slice_get, slice_index}
 use Rattle.std.proofs.lemmas.List.{length-map, get_or-map}
 use Rattle.std.proofs.Math.Seq.{take-length}
@@ -12,6 +12,8 @@ use Rattle.zk_model.specs.Mac.{Pair, pair_at, values_of, macs_of, corrected_pair
 use Rattle.zk_model.specs.declared.Product.{Product}
 use Rattle.zk_model.specs.Program.{Program, Carries, AreMade}
 use Rattle.zk_model.specs.Check.{ArePairsOf}
+use Rattle.field_program.specs.Counts.{unchecked}
+use Rattle.field_program.specs.Programs.{IsSmallProgram}
 use Rattle.wire_auth.specs.Sides.{joined, pairs_from}
 use Rattle.wire_auth.specs.Values.{given_value, given_from}
 use Rattle.wire_auth.proofs.Making.{given_at, length-given_from}
@@ -56,34 +58,34 @@ joined_is_corrected (x ∷ values) (pair ∷ dealt) elements =
     value_is = sym (plus-minus x pair.x (All-head IsElement x values elements))
 
 -- the pair of the given value of product i: its value, and the MAC of the dealt pair
-pub given_pair_at : (program : Program) (values : List ℕ) (dealt : List Pair) (i : ℕ) (product : Product) (pair : Pair)
-    → slice_get program.products i ≡ Some product → i < length dealt → pair ≡ get_or dealt i pair
-    → pair_at (joined (given_from program values) (macs_of dealt)) i
+pub given_pair_at : (program : Program) (values : List ℕ) (dealt : List Pair) (i : ℕ) (product : Product) (pair : Pair) → IsSmallProgram program
+    → slice_get program.products i ≡ Some product → product.c < length dealt → pair ≡ get_or dealt product.c pair
+    → pair_at (joined (given_from program values) (macs_of dealt)) product.c
     ≡ record { x = given_value program values product; m = pair.m }
-given_pair_at program values dealt i product pair at within pair_is =
-    joined_at (given_from program values) (macs_of dealt) i
-    (omega (arith, slice_get_within program.products i product at, length-given_from program values))
+given_pair_at program values dealt i product pair held at within pair_is =
+    joined_at (given_from program values) (macs_of dealt) product.c
+    (omega (arith, slice_get_within program.products i product at, held.numbered i product at, held.counted, length-given_from program values held.counted))
     (omega (arith, within, length-map dealt (λ (p : Pair). p.m)))
-    ∙ (λ j. record { x = given_at program values i product at j; m = mac j })
+    ∙ (λ j. record { x = given_at program values i product.c product at (held.numbered i product at) j; m = mac j })
   where
-    mac : slice_index (macs_of dealt) i ≡ pair.m
-    mac = get_or-map (λ (p : Pair). p.m) dealt i pair 0 within ∙ ap (λ (p : Pair). p.m) (sym pair_is)
+    mac : slice_index (macs_of dealt) product.c ≡ pair.m
+    mac = get_or-map (λ (p : Pair). p.m) dealt product.c pair 0 within ∙ ap (λ (p : Pair). p.m) (sym pair_is)
 
 -- ---- the pairs of all wires
 
 -- the values of the given pairs
-pub given_values : (program : Program) (values : List ℕ) (dealt : List Pair) → length program.products ≡ program.givens
+pub given_values : (program : Program) (values : List ℕ) (dealt : List Pair) → length program.products + unchecked program ≡ program.givens
     → program.givens ≤ length dealt → values_of (joined (given_from program values) (macs_of dealt)) ≡ given_from program values
 given_values program values dealt counted enough =
     values_of-joined (given_from program values) (macs_of dealt)
-    (omega (arith, length-given_from program values, counted, enough, length-map dealt (λ (p : Pair). p.m)))
+    (omega (arith, length-given_from program values counted, enough, length-map dealt (λ (p : Pair). p.m)))
 
 -- and of the wires
 wire_values : (values macs : List ℕ) → length values ≡ length macs → values_of (joined values macs) ≡ values
 wire_values values macs same = values_of-joined values macs (omega (arith, same))
 
 -- what is made is so as pairs
-pub are_made : (program : Program) (public inputs values macs : List ℕ) (dealt : List Pair) → length program.products ≡ program.givens
+pub are_made : (program : Program) (public inputs values macs : List ℕ) (dealt : List Pair) → length program.products + unchecked program ≡ program.givens
     → program.givens ≤ length dealt → length values ≡ length macs → AreMade program public inputs values (given_from program values)
     → AreMade program public inputs (values_of (joined values macs)) (values_of (joined (given_from program values) (macs_of dealt)))
 are_made program public inputs values macs dealt counted enough same made =
@@ -91,7 +93,7 @@ are_made program public inputs values macs dealt counted enough same made =
     (subst (λ (l : List ℕ). AreMade program public inputs l (given_from program values)) (sym (wire_values values macs same)) made)
 
 -- values and MACs are pairs
-pub are_pairs : (program : Program) (public inputs values macs : List ℕ) (dealt : List Pair) → length program.products ≡ program.givens
+pub are_pairs : (program : Program) (public inputs values macs : List ℕ) (dealt : List Pair) → length program.products + unchecked program ≡ program.givens
     → program.givens ≤ length dealt → length values ≡ length macs → AreMade program public inputs values (given_from program values)
     → Carries 0 program public (take program.givens (macs_of dealt)) macs → ArePairsOf program public (pairs_from program values dealt macs)
 are_pairs program public inputs values macs dealt counted enough same made carried = record {
@@ -102,7 +104,7 @@ are_pairs program public inputs values macs dealt counted enough same made carri
   where
     given_macs : macs_of (joined (given_from program values) (macs_of dealt)) ≡ take program.givens (macs_of dealt)
     given_macs = macs_of-joined (given_from program values) (macs_of dealt)
-        ∙ ap (λ n. take n (macs_of dealt)) (length-given_from program values ∙ counted)
+        ∙ ap (λ n. take n (macs_of dealt)) (length-given_from program values counted)
 
     wire_macs : macs_of (joined values macs) ≡ macs
     wire_macs = macs_of-joined values macs ∙ ap (λ n. take n macs) same ∙ take-length macs

@@ -2,8 +2,9 @@
 use Rattle.std.proofs.Common.{◌≡◌, ◌≢◌, ℕ, zero, suc, ◌+◌, ◌*◌, ◌-◌, ◌%◌, ◌<◌, ◌≤◌, ⊎_elim, inl, List, [], ◌++◌, map, length, take, drop, get_or, set, replicate, refl, sym, ap, ◌∙◌, arith, subst, get_or-set_other, length-append, length-drop}
 use Rattle.std.specs.Prelude.{Some, slice_get, slice_index}
 use Rattle.std.proofs.lemmas.Bool.{cases_lt, cond_below, cond_above}
-use Rattle.std.proofs.lemmas.List.{length-map, length-replicate, length-take-le, get_or-map, get_or-take, get_or-drop, take_all, ext_get_or}
-use Rattle.std.proofs.lemmas.List.FromFn.{length-range_with_len}
+use Rattle.std.proofs.lemmas.List.{length-map, length-replicate, length-take-le, get_or-map, get_or_append_left, get_or-append_right, get_or-take, get_or-drop, take_all, ext_get_or}
+use Rattle.std.specs.List.{range_with_len}
+use Rattle.std.proofs.lemmas.List.FromFn.{length-range_with_len, length-map-range_with_len, get_or-map-range_with_len}
 use Rattle.std.proofs.lemmas.Option.{slice_get_within, slice_get-get_or, get_or_from_slice_get}
 use Rattle.zk_model.specs.Bits.{from_bit}
 use Rattle.zk_model.specs.Field.{prime, ◌*ₚ◌}
@@ -15,6 +16,7 @@ use Rattle.zk_model.proofs.SetWires.{set_below, set_later}
 use Rattle.circuit_laws.proofs.CircuitIsProgram.{circuit_is_program, numbered, nth_value}
 use Rattle.circuit_laws.proofs.Ordered.{circuit_is_ordered}
 use Rattle.circuit_laws.proofs.Made.{one_made, bits_are_made}
+use Rattle.field_program.specs.Counts.{unchecked}
 use Rattle.field_program.specs.Programs.{IsSmallProgram}
 use Rattle.wire_auth.specs.Sides.{AreFirstWires}
 use Rattle.wire_auth.specs.Values.{given_value, given_from, CanBeMade, with_step, after_steps, first_numbers, wires_made, given_made, after_numbers, numbers_carried, MadeExist, CarriedExist, BitsMakeProducts}
@@ -26,7 +28,13 @@ no_product = record { a = 0; b = 0; c = 0 }
 
 -- a program that is held can be made
 pub can_be_made : (program : Program) → IsSmallProgram program → CanBeMade program
-can_be_made program held = record { formed = held.formed; ordered = held.ordered; counted = held.counted; numbered = held.numbered }
+can_be_made program held = record {
+  formed = held.formed;
+  ordered = held.ordered;
+  counted = held.counted;
+  inputs = ⊎_elim (λ none. omega (arith, none)) (λ all. omega (arith, all)) held.all_or_none;
+  numbered = held.numbered;
+}
 
 -- the factors of a product are wires
 pub factors_within : (program : Program) (i : ℕ) (product : Product) → IsProgram program → slice_get program.products i ≡ Some product
@@ -50,15 +58,53 @@ value_of_product program values product low =
     sym (cond_above product.c program.inputs (slice_index values (program.public + product.c)) (slice_index values product.a *ₚ slice_index values product.b)
     (slice_index values product.a *ₚ slice_index values product.b) low refl)
 
--- given value i is that of product i
-pub given_at : (program : Program) (values : List ℕ) (i : ℕ) (product : Product) → slice_get program.products i ≡ Some product
-    → slice_index (given_from program values) i ≡ given_value program values product
-given_at program values i product at =
-    get_or-map (given_value program values) program.products i product 0 (slice_get_within program.products i product at)
-    ∙ ap (given_value program values) (get_or_from_slice_get program.products i product product at)
+-- the given values of the inputs that are not checked
+abbrev unchecked_values : Program → List ℕ → List ℕ
+unchecked_values program values = map (λ i. slice_index values (program.public + i)) (range_with_len 0 (unchecked program))
 
-pub length-given_from : (program : Program) (values : List ℕ) → length (given_from program values) ≡ length program.products
-length-given_from program values = length-map program.products (given_value program values)
+length-unchecked_values : (program : Program) (values : List ℕ) → length (unchecked_values program values) ≡ unchecked program
+length-unchecked_values program values = length-map-range_with_len (λ i. slice_index values (program.public + i)) 0 (unchecked program)
+
+pub length-given_from : (program : Program) (values : List ℕ) → length program.products + unchecked program ≡ program.givens
+    → length (given_from program values) ≡ program.givens
+length-given_from program values counted = omega (
+  arith,
+  counted,
+  length-append (unchecked_values program values) (map (given_value program values) program.products),
+  length-unchecked_values program values,
+  length-map program.products (given_value program values),
+)
+
+-- each is the value of its input
+pub given_input : (program : Program) (values : List ℕ) (i : ℕ) → i < unchecked program
+    → slice_index (given_from program values) i ≡ slice_index values (program.public + i)
+given_input program values i below =
+    get_or_append_left (unchecked_values program values) (map (given_value program values) program.products) 0 i
+    (omega (arith, below, length-unchecked_values program values))
+    ∙ get_or-map-range_with_len (λ i. slice_index values (program.public + i)) 0 (unchecked program) i i 0 below (omega arith)
+
+-- and the others are those of the products
+pub given_at : (program : Program) (values : List ℕ) (i n : ℕ) (product : Product) → slice_get program.products i ≡ Some product
+    → n ≡ unchecked program + i → slice_index (given_from program values) n ≡ given_value program values product
+given_at program values i n product at number =
+    get_or-append_right (unchecked_values program values) (map (given_value program values) program.products) (unchecked program) n 0
+    (length-unchecked_values program values) late
+    ∙ ap (λ k. get_or (map (given_value program values) program.products) k 0) back
+    ∙ get_or-map (given_value program values) program.products i product 0 (slice_get_within program.products i product at)
+    ∙ ap (given_value program values) (get_or_from_slice_get program.products i product product at)
+  where
+    late : unchecked program ≤ n
+    late = omega (arith, number)
+
+    back : n - unchecked program ≡ i
+    back = omega (arith, number)
+
+-- that of a product which has these factors
+pub given_of : (program : Program) (values : List ℕ) (a b n value : ℕ) → IsSmallProgram program
+    → slice_get program.products (n - unchecked program) ≡ Some (record { a = a; b = b; c = n })
+    → value ≡ given_value program values (record { a = a; b = b; c = n }) → value ≡ slice_index (given_from program values) n
+given_of program values a b n value held at is =
+    is ∙ sym (given_at program values (n - unchecked program) n (record { a = a; b = b; c = n }) at (held.numbered (n - unchecked program) _ at))
 
 -- the first are the inputs
 first_given : (program : Program) (values : List ℕ) → CanBeMade program → length values ≡ program.wires
@@ -66,13 +112,8 @@ first_given : (program : Program) (values : List ℕ) → CanBeMade program → 
 first_given program values held whole =
     ext_get_or 0 (take program.inputs given) (take program.inputs (drop program.public values)) (few ∙ sym many) (λ i below.
     let less : i < program.inputs = omega (arith, few, below) in
-    let product = get_or program.products i no_product in
-    let at : slice_get program.products i ≡ Some product = slice_get-get_or program.products i no_product (omega (arith, held.counted, held.formed.inputs, less)) in
-    let number : product.c ≡ i = held.numbered i product at in
     get_or-take program.inputs given i 0 less
-    ∙ given_at program values i product at
-    ∙ value_of_input program values product (omega (arith, number, less))
-    ∙ ap (λ n. slice_index values (program.public + n)) number
+    ∙ ⊎_elim (given_input program values i) (checked i less) (cases_lt i (unchecked program))
     ∙ sym (get_or-drop program.public values i 0)
     ∙ sym (get_or-take program.inputs (drop program.public values) i 0 less))
   where
@@ -80,10 +121,20 @@ first_given program values held whole =
     given = given_from program values
 
     few : length (take program.inputs given) ≡ program.inputs
-    few = length-take-le program.inputs given (omega (arith, length-given_from program values, held.counted, held.formed.inputs))
+    few = length-take-le program.inputs given (omega (arith, length-given_from program values held.counted, held.formed.inputs))
 
     many : length (take program.inputs (drop program.public values)) ≡ program.inputs
     many = length-take-le program.inputs (drop program.public values) (omega (arith, length-drop program.public values, held.formed.first, whole))
+
+    checked : (i : ℕ) → i < program.inputs → unchecked program ≤ i → slice_index given i ≡ slice_index values (program.public + i)
+    checked i less late =
+        let product = get_or program.products (i - unchecked program) no_product in
+        let at : slice_get program.products (i - unchecked program) ≡ Some product =
+        slice_get-get_or program.products (i - unchecked program) no_product (omega (arith, held.counted, held.formed.inputs, less, late)) in
+        let number : product.c ≡ i = held.numbered (i - unchecked program) product at ∙ omega (arith, late) in
+        given_at program values (i - unchecked program) i product at (omega (arith, late))
+        ∙ value_of_input program values product (omega (arith, number, less))
+        ∙ ap (λ n. slice_index values (program.public + n)) number
 
 -- ---- one step more
 
@@ -94,38 +145,53 @@ apart program k n wire later formed before is set same =
     (formed.steps n later is).once (subst (IsSet program n) same (set_later program k n wire before set))
 
 -- what an early step takes stays where a later one sets its wire
-given_kept : (program : Program) (values : List ℕ) (k n number : ℕ) (term : Term) (later : Step) → CanBeMade program → k ≤ n
+given_kept : (program : Program) (values : List ℕ) (k n put : ℕ) (term : Term) (later : Step) → CanBeMade program → k ≤ n
     → slice_get program.steps n ≡ Some later → term.place < program.givens → IsMadeBefore program k term
-    → slice_index (given_from program (set values later.out number)) term.place ≡ slice_index (given_from program values) term.place
-given_kept program values k n number term later held before is within made =
-    given_at program now term.place product at
-    ∙ ⊎_elim
-    (λ input.
-    value_of_input program now product input
-    ∙ kept (program.public + product.c) (inl (omega (arith, input)))
-    ∙ sym (value_of_input program values product input))
-    (λ low.
-    let sets = made term.place product at same (omega (arith, low, same)) in
-    value_of_product program now product low
-    ∙ (λ i. kept product.a sets.0 i *ₚ kept product.b sets.1 i)
-    ∙ sym (value_of_product program values product low))
-    (cases_lt product.c program.inputs)
-    ∙ sym (given_at program values term.place product at)
+    → slice_index (given_from program (set values later.out put)) term.place ≡ slice_index (given_from program values) term.place
+given_kept program values k n put term later held before is within made = ⊎_elim unread product (cases_lt term.place (unchecked program))
   where
     now : List ℕ
-    now = set values later.out number
-
-    product : Product
-    product = get_or program.products term.place no_product
-
-    at : slice_get program.products term.place ≡ Some product
-    at = slice_get-get_or program.products term.place no_product (omega (arith, held.counted, within))
-
-    same : product.c ≡ term.place
-    same = held.numbered term.place product at
+    now = set values later.out put
 
     kept : (wire : ℕ) → IsSet program k wire → slice_index now wire ≡ slice_index values wire
-    kept wire set = get_or-set_other values later.out wire number 0 (apart program k n wire later held.formed before is set)
+    kept wire early = get_or-set_other values later.out wire put 0 (apart program k n wire later held.formed before is early)
+
+    unread : term.place < unchecked program → slice_index (given_from program now) term.place ≡ slice_index (given_from program values) term.place
+    unread below =
+        given_input program now term.place below
+        ∙ kept (program.public + term.place) (inl (omega (arith, below, held.inputs)))
+        ∙ sym (given_input program values term.place below)
+
+    product : unchecked program ≤ term.place → slice_index (given_from program now) term.place ≡ slice_index (given_from program values) term.place
+    product late =
+        given_at program now place term.place taken at number
+        ∙ ⊎_elim
+        (λ input.
+        value_of_input program now taken input
+        ∙ kept (program.public + taken.c) (inl (omega (arith, input)))
+        ∙ sym (value_of_input program values taken input))
+        (λ low.
+        let sets = made place taken at same (omega (arith, low, same)) in
+        value_of_product program now taken low
+        ∙ (λ i. kept taken.a sets.0 i *ₚ kept taken.b sets.1 i)
+        ∙ sym (value_of_product program values taken low))
+        (cases_lt taken.c program.inputs)
+        ∙ sym (given_at program values place term.place taken at number)
+      where
+        place : ℕ
+        place = term.place - unchecked program
+
+        number : term.place ≡ unchecked program + place
+        number = omega (arith, late)
+
+        taken : Product
+        taken = get_or program.products place no_product
+
+        at : slice_get program.products place ≡ Some taken
+        at = slice_get-get_or program.products place no_product (omega (arith, held.counted, within, late))
+
+        same : taken.c ≡ term.place
+        same = held.numbered place taken at ∙ sym number
 
 -- values of all wires, of which the first are as they were, that meet the first n steps with the given values that they make
 abbrev pub AreMadeSoFar : Program → List ℕ → List ℕ → ℕ → Type 0
@@ -169,13 +235,12 @@ all_made program public inputs initial values n held end counted far begun =
         inputs = sym firsts;
         steps = all_met program 1 (given_from program values) values n end far.met;
       };
-      count = length-given_from program values ∙ held.counted;
+      count = length-given_from program values held.counted;
       first = firsts ∙ now.inputs ∙ take_all program.inputs inputs (omega (arith, counted));
       others = λ i d below low.
           let product = get_or program.products i d in
           let at : slice_get program.products i ≡ Some product = slice_get-get_or program.products i d below in
-          ap (slice_index (given_from program values)) (held.numbered i product at)
-          ∙ given_at program values i product at
+          given_at program values i product.c product at (held.numbered i product at)
           ∙ value_of_product program values product low;
     }
 
@@ -256,11 +321,16 @@ circuit_can_be_made : (public : ℕ) (circuit : Circuit) → IsWellFormed circui
 circuit_can_be_made public circuit formed few = record {
   formed = circuit_is_program public circuit formed few;
   ordered = circuit_is_ordered public circuit formed few;
-  counted =
-      sym (length-map (circuit_program public circuit).products (λ product. product.c))
-      ∙ ap length (numbered public circuit) ∙ length-range_with_len 0 (circuit_program public circuit).givens;
-  numbered = λ i product at. nth_value (circuit_program public circuit).products (circuit_program public circuit).givens i product (numbered public circuit) at;
+  counted = omega (arith, one_each);
+  inputs = omega (arith, one_each);
+  numbered = λ i product at.
+      nth_value (circuit_program public circuit).products (circuit_program public circuit).givens i product (numbered public circuit) at
+      ∙ omega (arith, one_each);
 }
+  where
+    one_each : length (circuit_program public circuit).products ≡ (circuit_program public circuit).givens
+    one_each = sym (length-map (circuit_program public circuit).products (λ product. product.c))
+        ∙ ap length (numbered public circuit) ∙ length-range_with_len 0 (circuit_program public circuit).givens
 
 pub bits_make_products : BitsMakeProducts
 bits_make_products public circuit inputs bits formed few met =

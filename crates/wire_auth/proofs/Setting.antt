@@ -10,7 +10,7 @@ use Rattle.zk_model.specs.Boolean.{once, less_once, less_twice}
 use Rattle.circuit_laws.proofs.Programs.{AreMet, met_more, first_kept}
 use Rattle.zk_model.proofs.SetWires.{set_below}
 use Rattle.field_program.specs.declared.step.Step.{Step}
-use Rattle.field_program.specs.declared.step.Step.TheVariants.{Const, Copy, Not, Mul, XorFrom}
+use Rattle.field_program.specs.declared.step.Step.TheVariants.{Const, Copy, Not, Add, Mul, XorFrom}
 use Rattle.field_program.specs.Steps.{step_equation}
 use Rattle.wire_auth.specs.Sides.{ReadsWithin, TakesWithin, AreFirstWires}
 use Rattle.zk_model.specs.Field.{◌*ₚ◌}
@@ -24,6 +24,11 @@ reads_within program n wires step formed at w = subst (λ (k : ℕ). ReadsWithin
     reads (Const out value) is = is.within
     reads (Copy out a) is = (is.within, set_below program n a formed (is.reads 0 (once a) (omega arith)))
     reads (Not out a) is = (is.within, set_below program n a formed (is.reads 0 (less_once a) (omega arith)))
+    reads (Add out a b) is = (
+      is.within,
+      set_below program n a formed (is.reads 0 (once a) (omega arith)),
+      set_below program n b formed (is.reads 1 (once b) (omega arith)),
+    )
     reads (Mul out a b c) is = is.within
     reads (XorFrom out a b c) is = (
       is.within,
@@ -40,6 +45,7 @@ takes_within program n given step formed at enough = takes step (formed.steps n 
     takes (Const out value) is = tt
     takes (Copy out a) is = tt
     takes (Not out a) is = tt
+    takes (Add out a b) is = tt
     takes (Mul out a b c) is = omega (arith, enough, is.takes 0 (once c) (omega arith))
     takes (XorFrom out a b c) is = omega (arith, enough, is.takes 0 (less_twice c) (omega arith))
 

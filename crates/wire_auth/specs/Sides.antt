@@ -5,7 +5,7 @@ use Rattle.zk_model.specs.Mac.{Pair, macs_of}
 use Rattle.zk_model.specs.Program.{Program}
 use Rattle.zk_model.specs.Check.{WirePairs, WireKeys}
 use Rattle.field_program.specs.declared.step.Step.{Step}
-use Rattle.field_program.specs.declared.step.Step.TheVariants.{Const, Copy, Not, Mul, XorFrom}
+use Rattle.field_program.specs.declared.step.Step.TheVariants.{Const, Copy, Not, Add, Mul, XorFrom}
 use Rattle.wire_auth.specs.Values.{given_from}
 
 -- a program with the pairs that were dealt, and those of its given values and of all its wires
@@ -36,6 +36,7 @@ abbrev pub ReadsWithin : ℕ → Step → Type 0
 ReadsWithin wires (Const out value) = out < wires
 ReadsWithin wires (Copy out a) = (out < wires) × (a < wires)
 ReadsWithin wires (Not out a) = (out < wires) × (a < wires)
+ReadsWithin wires (Add out a b) = (out < wires) × (a < wires) × (b < wires)
 ReadsWithin wires (Mul out a b product) = out < wires
 ReadsWithin wires (XorFrom out a b product) = (out < wires) × (a < wires) × (b < wires)
 

@@ -1,13 +1,15 @@
 -- The values that public values and private inputs make.
 use Rattle.std.specs.Prelude.{◌≡◌, ℕ, zero, suc, ◌+◌, ◌-◌, ◌≤◌, nat_lt, if◌then◌else◌, Bool, List, [], ◌++◌, length, map, take, drop, set, get_or, replicate, slice_index, slice_get, Some}
+use Rattle.std.specs.List.{range_with_len}
 use Rattle.zk_model.specs.Bits.{from_bit}
 use Rattle.zk_model.specs.Field.{◌*ₚ◌}
 use Rattle.zk_model.specs.Program.{Step, Program, IsProgram, IsOrdered, AreMade, Carries, step_value}
 use Rattle.zk_model.specs.Circuit.{Circuit, IsWellFormed, AreWireBits}
 use Rattle.zk_model.specs.Boolean.{circuit_program, products_of_bits}
 use Rattle.zk_model.specs.declared.Product.{Product}
+use Rattle.field_program.specs.Counts.{unchecked}
 
--- ---- of a program whose product i has given value i
+-- ---- of a program whose inputs are checked or not, and whose products have the other given values, in order
 
 -- the value of a product: of the input that it checks, or of its two wires multiplied
 abbrev pub given_value : Program → List ℕ → Product → ℕ
@@ -15,16 +17,19 @@ given_value program values product =
     if nat_lt product.c program.inputs then slice_index values (program.public + product.c)
     else slice_index values product.a *ₚ slice_index values product.b
 
--- the given values that values of all wires make
+-- the given values that values of all wires make: those of the inputs that no product checks, and then of the products
 abbrev pub given_from : Program → List ℕ → List ℕ
-given_from program values = map (given_value program values) program.products
+given_from program values =
+    map (λ i. slice_index values (program.public + i)) (range_with_len 0 (unchecked program)) ++ map (given_value program values) program.products
 
--- product i has given value i, and no step takes the value of a product before its factors are set
+-- behind inputs that are not checked the given values are those of products, in order, and no step takes the value of a product before
+-- its factors are set
 pub record CanBeMade (program : Program) : Type 0 where
   pub formed : IsProgram program
   pub ordered : IsOrdered program
-  pub counted : length program.products ≡ program.givens
-  pub numbered : (i : ℕ) (product : Product) → slice_get program.products i ≡ Some product → product.c ≡ i
+  pub counted : length program.products + unchecked program ≡ program.givens
+  pub inputs : unchecked program ≤ program.inputs
+  pub numbered : (i : ℕ) (product : Product) → slice_get program.products i ≡ Some product → product.c ≡ unchecked program + i
 
 -- ---- the one list
 

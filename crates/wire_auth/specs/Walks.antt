@@ -34,6 +34,7 @@ abbrev pub AreReadIn : StepSlots → List ℕ → List ℕ → Step → Type 0
 AreReadIn at slots wires (step.Const out value) = Unit {0}
 AreReadIn at slots wires (step.Copy out a) = slice_index slots at.a ≡ slice_index wires a
 AreReadIn at slots wires (step.Not out a) = slice_index slots at.a ≡ slice_index wires a
+AreReadIn at slots wires (step.Add out a b) = (slice_index slots at.a ≡ slice_index wires a) × (slice_index slots at.b ≡ slice_index wires b)
 AreReadIn at slots wires (step.Mul out a b product) = Unit {0}
 AreReadIn at slots wires (step.XorFrom out a b product) = (slice_index slots at.a ≡ slice_index wires a) × (slice_index slots at.b ≡ slice_index wires b)
 
@@ -45,14 +46,14 @@ IsTakenBy given equation taken = All (λ term. taken ≡ slice_index given term.
 abbrev pub TakesAt : Program → ℕ → Type 0
 TakesAt program k = (step : model) × (slice_get program.steps k ≡ Some step) × (1 ≤ length step.given)
 
--- A walk that has met so many steps and products: the bit checks come before all steps, and then the walk waits at the step that takes
--- the value of the next product, or is at the end.
-pub record IsAlong (program : Program) (steps met : ℕ) : Type 0 where
+-- A walk that has followed so many steps, where the value of the next product is the given value of this number: the bit checks come
+-- before all steps, and then the walk waits at the step that takes the value of the next product, or is at the end.
+pub record IsAlong (program : Program) (steps next : ℕ) : Type 0 where
   pub upto : steps ≤ length program.steps
-  pub within : met ≤ length program.products
-  pub checks : met < program.inputs → steps ≡ 0
-  pub taken : program.inputs ≤ met → program.inputs + length (values_taken (take steps program.steps)) ≡ met
-  pub waits : program.inputs ≤ met → (steps ≡ length program.steps) ⊎ TakesAt program steps
+  pub within : next ≤ program.givens
+  pub checks : next < program.inputs → steps ≡ 0
+  pub taken : program.inputs ≤ next → program.inputs + length (values_taken (take steps program.steps)) ≡ next
+  pub waits : program.inputs ≤ next → (steps ≡ length program.steps) ⊎ TakesAt program steps
 
 -- a walk whose slots have such, where the constant 1 is `one`
 pub record Walking (N : Type 0) : Type 0 where

@@ -30,6 +30,7 @@ pub(crate) fn step_number(step: &Step, one: Fe, wires: &[Fe], taken: Fe) -> Fe
         Step::Const { value, .. } => value * one,
         Step::Copy { a, .. } => known(wires[a as usize]),
         Step::Not { a, .. } => one - wires[a as usize],
+        Step::Add { a, b, .. } => wires[a as usize] + wires[b as usize],
         Step::Mul { .. } => known(taken),
         Step::XorFrom { a, b, .. } => wires[a as usize] + wires[b as usize] - (taken + taken),
     }
@@ -82,7 +83,7 @@ fn taken_number(step: &Step, given: &[Fe]) -> Fe
 {
     match *step {
         Step::Mul { product, .. } | Step::XorFrom { product, .. } => known(given[product as usize]),
-        Step::Const { .. } | Step::Copy { .. } | Step::Not { .. } => Fe::ZERO,
+        Step::Const { .. } | Step::Copy { .. } | Step::Not { .. } | Step::Add { .. } => Fe::ZERO,
     }
 }
 

@@ -1,11 +1,12 @@
 // What a prover sends to fix its given values.
-ghost use Rattle.std.specs.Prelude.{◌≡◌, ◌+◌, ◌≤◌, ◌<◌, ℕ, List, length, slice_index, IfOk, All};
+ghost use Rattle.std.specs.Prelude.{◌≡◌, ◌+◌, ◌≤◌, ◌<◌, ℕ, List, length, take, slice_index, IfOk, All};
 ghost use Rattle.zk_model.specs.Check.{ArePairsOf};
 ghost use Rattle.zk_model.specs.Boolean.{bits_of_products};
 ghost use Rattle.zk_model.specs.Field.{IsElement};
 ghost use Rattle.zk_model.specs.HonestProver.{honest_corrections};
 ghost use Rattle.zk_model.specs.Mac.{corrected_pairs};
 ghost use Rattle.zk_model.specs.Slots.{IsPlanOf};
+ghost use Rattle.field_program.specs.Counts.{unchecked};
 ghost use Rattle.wire_auth.specs.Values.{given_from, given_made};
 ghost use Rattle.wire_auth.specs.Walks.{Follows, side_made};
 
@@ -16,6 +17,21 @@ use crate::walking::StepWalk;
 use field_program::{FieldProgram, SlotPlan};
 use mersenne_field::{Fe, Pair};
 use std::alloc::{AllocError, Global};
+
+/// Given value i, where all wires have these values: of an input that is not checked, or of a product.
+fn given_at(program: &FieldProgram, values: &[Fe], i: usize) -> Fe
+    requires values { length values.now ≡ program.now.wires }
+    requires there { i < program.now.givens }
+    ensures value { result ≡ slice_index (given_from program.now values.now) i }
+    ensures element { IsElement result }
+{
+    let unchecked = program.unchecked();
+    if i < unchecked {
+        known(values[program.public() + i])
+    } else {
+        given_value(program, values, program.product(i - unchecked))
+    }
+}
 
 /// The corrections that turn dealt pairs into ones of the given values that values of all wires make: for each the value less
 /// the dealt one.
@@ -32,10 +48,10 @@ pub(crate) fn corrections(
     ensures one_each { IfOk result (λ v. length v.items ≡ program.now.givens) }
     ensures elements { IfOk result (λ _. All IsElement (given_from program.now values.now)) }
 {
-    let mut corrections = Vec::with_capacity(alloc, program.products())?;
-    for i in 0..program.products() {
+    let mut corrections = Vec::with_capacity(alloc, program.givens())?;
+    for i in 0..program.givens() {
         let pair = dealt[i];
-        corrections.push(given_value(program, values, program.product(i)) - pair.x)?;
+        corrections.push(given_at(program, values, i) - pair.x)?;
     }
     Ok(corrections)
 }
@@ -46,20 +62,43 @@ fn meet_value(walk: &mut StepWalk<'_, Fe>) -> Fe
     ensures program { walk.new.program ≡ walk.old.program }
     ensures met { walk.new.met ≡ walk.old.met + 1 }
     ensures value { (values : List ℕ) → Follows (λ n. n) walk.old values (given_from walk.old.program values)
-        → result ≡ slice_index (given_from walk.old.program values) walk.old.met }
+        → result ≡ slice_index (given_from walk.old.program values)
+        (unchecked walk.old.program + walk.old.met) }
     ensures follows { (values : List ℕ)
         → Follows (λ n. n) walk.old values (given_from walk.old.program values)
         → Follows (λ n. n) walk.new values (given_from walk.old.program values) }
     ensures element { IsElement result }
 {
     let program = walk.program();
-    let met = walk.met();
+    let next = walk.next_given();
     let Some(factors) = walk.factors() else {
         unreachable!();
     };
-    let value = known(given_number(program, met, factors.0, factors.1));
+    let value = known(given_number(program, next, factors.0, factors.1));
     walk.meet(value);
     value
+}
+
+/// The corrections of the inputs that are not checked, with room for those of all given values.
+fn input_corrections(
+    alloc: Global,
+    program: &FieldProgram,
+    inputs: &[Fe],
+    dealt: &[Pair],
+) -> Result<Vec<Fe>, AllocError>
+    requires inputs { length inputs.now ≡ program.now.inputs }
+    requires dealt { program.now.givens ≤ length dealt.now }
+    ensures corrections { IfOk result (λ v. v.items
+        ≡ take (unchecked program.now) (honest_corrections inputs.now dealt.now)) }
+    ensures elements { IfOk result (λ _. (k : ℕ) → k < unchecked program.now
+        → IsElement (slice_index inputs.now k)) }
+{
+    let mut corrections = Vec::with_capacity(alloc, program.givens())?;
+    for i in 0..program.unchecked() {
+        let pair = dealt[i];
+        corrections.push(known(inputs[i]) - pair.x)?;
+    }
+    Ok(corrections)
 }
 
 /// The corrections that `ProverWires::run` makes, by a walk along a program: they turn dealt pairs into those of the given values
@@ -91,8 +130,8 @@ pub fn walk_corrections(
 {
     let first = first_numbers(alloc, public, Fe::ONE, inputs)?;
     let mut walk = StepWalk::new(program, plan, Fe::ONE, first)?;
-    let mut corrections = Vec::with_capacity(alloc, program.products())?;
-    for i in 0..program.products() {
+    let mut corrections = input_corrections(alloc, program, inputs, dealt)?;
+    for i in program.unchecked()..program.givens() {
         let value = meet_value(&mut walk);
         let pair = dealt[i];
         corrections.push(value - pair.x)?;
@@ -112,7 +151,7 @@ fn product_bit(program: &FieldProgram, bits: &[bool], i: usize) -> Fe
 }
 
 /// The corrections that turn dealt pairs into those of the products of these bits, which all wires have: for each the product less the
-/// dealt value. Where the bits are a circuit's, they are those that `walk_corrections` makes.
+/// dealt value. Where the bits are a Boolean circuit's, they are those that `walk_corrections` makes.
 ///
 /// # Errors
 ///
@@ -127,7 +166,7 @@ pub fn bit_corrections(
     requires dealt { program.now.givens ≤ length dealt.now }
     ensures corrections { IfOk result (λ v. v.items
         ≡ honest_corrections (bits_of_products program.now.products bits.now) dealt.now) }
-    ensures one_each { IfOk result (λ v. length v.items ≡ program.now.givens) }
+    ensures one_each { IfOk result (λ v. length v.items ≡ length program.now.products) }
 {
     let mut corrections = Vec::with_capacity(alloc, program.products())?;
     for i in 0..program.products() {

@@ -110,11 +110,11 @@ impl<'a> ProverWalk<'a> {
     {
         let program = self.pairs.program();
         let _products = program.products();
-        let met = self.pairs.met();
+        let next = self.pairs.next_given();
         let (a, b) = self.pairs.factors()?;
         let c = Pair {
-            x: given_number(program, met, a.x, b.x),
-            m: dealt_mac(self.dealt, met),
+            x: given_number(program, next, a.x, b.x),
+            m: dealt_mac(self.dealt, next),
         };
         self.pairs.meet(c);
         Some(Triple { a, b, c })
@@ -162,15 +162,14 @@ fn first_pairs(
     Ok(first)
 }
 
-/// The given value of a product, from the values of both factors: that of the input which it checks, or their product.
-pub(crate) fn given_number(program: &FieldProgram, met: usize, left: Fe, right: Fe) -> Fe
-    requires { met < length program.now.products }
-    ensures { (product : zk.Product) (values : List ℕ) → slice_get program.now.products met ≡ Some product
+/// The given value of this number of a product, from the values of both factors: that of the input which it checks, or their product.
+pub(crate) fn given_number(program: &FieldProgram, next: usize, left: Fe, right: Fe) -> Fe
+    ensures { (i : ℕ) (product : zk.Product) (values : List ℕ)
+        → slice_get program.now.products i ≡ Some product → product.c ≡ next
         → left ≡ slice_index values product.a → right ≡ slice_index values product.b
         → result ≡ given_value program.now values product }
 {
-    let _product = program.product(met);
-    if met < program.inputs() {
+    if next < program.inputs() {
         left
     } else {
         left * right

@@ -1,7 +1,8 @@
 // The values of all wires, from the public ones and the private inputs.
-ghost use Rattle.std.specs.Prelude.{◌≡◌, ◌<◌, ◌≤◌, ℕ, List, length, slice_get, Some, IfOk};
+ghost use Rattle.std.specs.Prelude.{◌≡◌, ◌-◌, ◌<◌, ◌≤◌, ℕ, List, length, slice_get, Some, IfOk};
 ghost use Rattle.zk_model.specs.Field.{IsElement};
 ghost use Rattle.zk_model.specs.Program.{AreMade};
+ghost use Rattle.field_program.specs.Counts.{unchecked};
 ghost use Rattle.field_program.specs.Rules.{HasFactors};
 ghost use Rattle.wire_auth.specs.Sides.{AreFirstWires, IsGivenTaken};
 ghost use Rattle.wire_auth.specs.Values.{BitsMakeProducts, given_from, given_value};
@@ -14,7 +15,8 @@ use std::alloc::{AllocError, Global};
 /// The value of a product: of the input that it checks, or of its two wires multiplied.
 pub(crate) fn given_value(program: &FieldProgram, values: &[Fe], product: Product) -> Fe
     requires values { length values.now ≡ program.now.wires }
-    requires product { slice_get program.now.products product.c ≡ Some product }
+    requires product { slice_get program.now.products (product.c - unchecked program.now)
+        ≡ Some product }
     ensures value { result ≡ given_value program.now values.now product }
     ensures element { IsElement result }
 {
@@ -27,16 +29,18 @@ pub(crate) fn given_value(program: &FieldProgram, values: &[Fe], product: Produc
 }
 
 /// The given value that a step takes, and 0 where it takes none.
+#[tactic(auto, using(crate::proofs::Making::given_of))]
 fn taken_value(program: &FieldProgram, values: &[Fe], step: &Step) -> Fe
     requires values { length values.now ≡ program.now.wires }
-    requires factors { HasFactors program.now.products step.now }
+    requires factors { HasFactors program.now step.now }
     ensures { IsGivenTaken (given_from program.now values.now) step.now result }
 {
+    let _products = program.products();
     match *step {
         Step::Mul { a, b, product, .. } | Step::XorFrom { a, b, product, .. } => {
             given_value(program, values, Product { a, b, c: product })
         }
-        Step::Const { .. } | Step::Copy { .. } | Step::Not { .. } => Fe::ZERO,
+        Step::Const { .. } | Step::Copy { .. } | Step::Not { .. } | Step::Add { .. } => Fe::ZERO,
     }
 }
 

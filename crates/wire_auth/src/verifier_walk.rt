@@ -107,9 +107,9 @@ impl<'a> VerifierWalk<'a> {
             ≡ min (self.old.met + 1) (length self.old.side.program.products) }
     {
         let _products = self.walk.program().products();
-        let met = self.walk.met();
+        let next = self.walk.next_given();
         let (a, b) = self.walk.factors()?;
-        let c = self.keys[met] + self.corrections[met] * self.key;
+        let c = self.keys[next] + self.corrections[next] * self.key;
         self.walk.meet(c);
         Some(KeyTriple { a, b, c })
     }

@@ -3,7 +3,8 @@ ghost use Rattle.std.specs.Prelude.{◌≡◌, ◌+◌, ◌<◌, ◌≤◌, ◌�
 ghost use Rattle.zk_model.specs.Program.{Step as model, MeetsStep, step_value};
 ghost use Rattle.zk_model.specs.Slots.{IsPlanOf};
 ghost use Rattle.zk_model.specs.declared.Product as zk;
-ghost use Rattle.field_program.specs.Programs.{values_taken};
+ghost use Rattle.field_program.specs.Counts.{unchecked};
+ghost use Rattle.field_program.specs.Programs.{IsSmallProgram, values_taken};
 ghost use Rattle.field_program.specs.Steps.{step_equation};
 ghost use Rattle.wire_auth.specs.Sides.{IsGivenTaken};
 ghost use Rattle.wire_auth.specs.Walks.{Part, AreHeldAt, AreReadIn, AreSlotsWithin, Follows, IsAlong, IsTakenBy, TakesAt};
@@ -32,10 +33,11 @@ pub(crate) struct StepWalk<'a, N: Carried> {
 }
 
 impl<'a, N: Carried> Model for StepWalk<'a, N> {
-    ghost use Rattle.std.specs.Prelude.{◌≡◌, length};
+    ghost use Rattle.std.specs.Prelude.{◌≡◌, ◌+◌, length};
     ghost use Rattle.zk_model.specs.Slots.{IsPlanOf};
     ghost use Rattle.wire_auth.specs.Walks as walks;
     ghost use Rattle.wire_auth.specs.Walks.{IsAlong};
+    ghost use Rattle.field_program.specs.Counts.{unchecked};
 
     ghost Value = { walks.Walking N };
 
@@ -48,8 +50,8 @@ impl<'a, N: Carried> Model for StepWalk<'a, N> {
       met = w.met;
     } };
 
-    ghost invariant = { λ w. IsAlong w.program.now w.steps w.met × IsPlanOf w.program.now w.plan.now
-        × (length w.slots.items ≡ w.plan.now.slots) };
+    ghost invariant = { λ w. IsAlong w.program.now w.steps (unchecked w.program.now + w.met)
+        × IsPlanOf w.program.now w.plan.now × (length w.slots.items ≡ w.plan.now.slots) };
 }
 
 /// What a step gives its wire, from what is in the slots of those that it reads, and of the given value that it takes.
@@ -65,6 +67,7 @@ fn step_number<N: Carried>(slots: &[N], at: StepSlots, step: &Step, one: N, take
         Step::Const { value, .. } => one.times(value),
         Step::Copy { .. } => slots[at.a as usize].known(),
         Step::Not { .. } => one.less(slots[at.a as usize]),
+        Step::Add { .. } => slots[at.a as usize].plus(slots[at.b as usize]),
         Step::Mul { .. } => taken.known(),
         Step::XorFrom { .. } => {
             let sum = slots[at.a as usize].plus(slots[at.b as usize]);
@@ -140,47 +143,47 @@ fn pass_first<N: Carried>(
     requires plan { IsPlanOf program.now plan.now }
     requires whole { length slots.old.items ≡ plan.now.slots }
     ensures whole { length slots.new.items ≡ plan.now.slots }
-    ensures along { IsAlong program.now result 0 }
+    ensures along { IsAlong program.now result (unchecked program.now) }
     ensures held { (which : Part) (is : IsPlanOf program.now plan.now) (wires given : List ℕ)
         → All (MeetsStep (N.part which one) wires given) program.now.steps
         → AreHeldAt program.now is.places 0 wires (map (N.part which) slots.old.items)
         → AreHeldAt program.now is.places result wires (map (N.part which) slots.new.items) }
 {
-    if program.inputs() > 0 {
+    if program.unchecked() < program.inputs() {
         return 0;
     }
     pass_linear(program, plan, slots, 0, one)
 }
 
-/// Follows the steps from a product to the next, where the given value of the first has this number, and says how many steps are behind.
-/// A bit check of an input comes before all steps.
+/// Follows the steps from the product of given value `next`, which has this number, to the next product, and says how many steps are
+/// behind. A bit check of an input comes before all steps.
 fn pass_product<N: Carried>(
     program: &FieldProgram,
     steps: usize,
-    met: usize,
+    next: usize,
     plan: &SlotPlan,
     slots: &mut Vec<N>,
     one: N,
     number: N,
 ) -> usize
-    requires along { IsAlong program.now steps met }
-    requires more { met < length program.now.products }
+    requires along { IsAlong program.now steps next }
+    requires more { next < program.now.givens }
     requires plan { IsPlanOf program.now plan.now }
     requires whole { length slots.old.items ≡ plan.now.slots }
     ensures whole { length slots.new.items ≡ plan.now.slots }
-    ensures along { IsAlong program.now result (met + 1) }
+    ensures along { IsAlong program.now result (next + 1) }
     ensures held { (which : Part) (is : IsPlanOf program.now plan.now) (wires given : List ℕ)
         → All (MeetsStep (N.part which one) wires given) program.now.steps
-        → N.part which number ≡ slice_index given met
+        → N.part which number ≡ slice_index given next
         → AreHeldAt program.now is.places steps wires (map (N.part which) slots.old.items)
         → AreHeldAt program.now is.places result wires (map (N.part which) slots.new.items) }
 {
     let inputs = program.inputs();
-    let _products = program.products();
-    if met + 1 < inputs {
+    let _givens = program.givens();
+    if next + 1 < inputs {
         return steps;
     }
-    if met < inputs {
+    if next < inputs {
         return pass_linear(program, plan, slots, steps, one);
     }
     let _step = program.step(steps);
@@ -207,20 +210,20 @@ fn first_slots<N: Carried>(
     Ok(slots)
 }
 
-/// The slots of both factors of the next product. A bit check has that of the input, which is its number, and another those of the
-/// step that takes its value.
+/// The slots of both factors of the product of given value `next`. A bit check has that of the input, which is of its number, and another
+/// those of the step that takes its value.
 #[inline(always)]
-fn factor_slots(program: &FieldProgram, plan: &SlotPlan, steps: usize, met: usize) -> (u32, u32)
-    requires along { IsAlong program.now steps met }
-    requires more { met < length program.now.products }
+fn factor_slots(program: &FieldProgram, plan: &SlotPlan, steps: usize, next: usize) -> (u32, u32)
+    requires along { IsAlong program.now steps next }
+    requires more { next < program.now.givens }
     requires plan { IsPlanOf program.now plan.now }
     ensures within { (result.0 < plan.now.slots) × (result.1 < plan.now.slots) }
-    ensures factors { (is : IsPlanOf program.now plan.now) (product : zk.Product)
-        → slice_get program.now.products met ≡ Some product
+    ensures factors { (is : IsPlanOf program.now plan.now) (i : ℕ) (product : zk.Product)
+        → slice_get program.now.products i ≡ Some product → product.c ≡ next
         → (result.0 ≡ slice_index is.places product.a) × (result.1 ≡ slice_index is.places product.b) }
 {
-    if met < program.inputs() {
-        let wire = (program.public() + met) as u32;
+    if next < program.inputs() {
+        let wire = (program.public() + next) as u32;
         return (wire, wire);
     }
     let at = plan.step_slots(steps);
@@ -301,12 +304,13 @@ impl<'a, N: Carried> StepWalk<'a, N> {
         })
     }
 
-    /// How many products it has met.
-    pub fn met(&self) -> usize
-        ensures met { result ≡ self.now.met }
+    /// The number of the given value of the next product, and after the last how many there are.
+    pub fn next_given(&self) -> usize
+        ensures number { result ≡ unchecked self.now.program + self.now.met }
         ensures within { self.now.met ≤ length self.now.program.products }
+        ensures held { IsSmallProgram self.now.program }
     {
-        self.met
+        self.program.unchecked() + self.met
     }
 
     /// The program.
@@ -328,7 +332,8 @@ impl<'a, N: Carried> StepWalk<'a, N> {
         if self.met == self.program.products() {
             return None;
         }
-        let (a, b) = factor_slots(self.program, self.plan, self.steps, self.met);
+        let next = self.next_given();
+        let (a, b) = factor_slots(self.program, self.plan, self.steps, next);
         Some((self.slots[a as usize], self.slots[b as usize]))
     }
 
@@ -338,7 +343,7 @@ impl<'a, N: Carried> StepWalk<'a, N> {
         ensures program { self.new.program ≡ self.old.program }
         ensures met { self.new.met ≡ self.old.met + 1 }
         ensures follows { (which : Part) (wires given : List ℕ)
-            → N.part which number ≡ slice_index given self.old.met
+            → N.part which number ≡ slice_index given (unchecked self.old.program + self.old.met)
             → Follows (N.part which) self.old wires given → Follows (N.part which) self.new wires given }
     {
         let Self {
@@ -352,7 +357,7 @@ impl<'a, N: Carried> StepWalk<'a, N> {
         self.steps = pass_product(
             program,
             self.steps,
-            self.met,
+            program.unchecked() + self.met,
             plan,
             &mut self.slots,
             one,

@@ -1,4 +1,4 @@
-use Rattle.std.proofs.Common.{◌∙◌, ◌++◌, [], ◌∷◌, arith, take, ap, sym}
+use Rattle.std.proofs.Common.{◌∙◌, ◌++◌, [], ◌∷◌, arith, length, take, ap, sym}
 use Rattle.zk_model.specs.Boolean.{bits_of_products}
 use Rattle.zk_model.specs.Field.{◌-ₚ◌}
 use Rattle.zk_model.specs.Mac.{Pair}
@@ -21,12 +21,12 @@ loop-i-preserved c =
 
 pub returns-clause-corrections : goal.returns-clause-corrections
 returns-clause-corrections c =
-    (all_made c.args.program.now (bits_of_products c.args.program.now.products c.args.bits.now) _ c.args.dealt.now c.loop-i.i
-    (length-bits_of_products c.args.program.now.products c.args.bits.now) c.products.ensures.held.counted c.requires.dealt
+    (all_made (bits_of_products c.args.program.now.products c.args.bits.now) _ c.args.dealt.now (length c.args.program.now.products) c.loop-i.i
+    (length-bits_of_products c.args.program.now.products c.args.bits.now) (omega (arith, c.products.ensures.held.counted, c.requires.dealt))
     (omega (arith, c.loop-i-test.false, c.products-i-end.ensures.count)) c.loop-i.invariant).0
 
 pub returns-clause-one_each : goal.returns-clause-one_each
 returns-clause-one_each c =
-    (all_made c.args.program.now (bits_of_products c.args.program.now.products c.args.bits.now) _ c.args.dealt.now c.loop-i.i
-    (length-bits_of_products c.args.program.now.products c.args.bits.now) c.products.ensures.held.counted c.requires.dealt
+    (all_made (bits_of_products c.args.program.now.products c.args.bits.now) _ c.args.dealt.now (length c.args.program.now.products) c.loop-i.i
+    (length-bits_of_products c.args.program.now.products c.args.bits.now) (omega (arith, c.products.ensures.held.counted, c.requires.dealt))
     (omega (arith, c.loop-i-test.false, c.products-i-end.ensures.count)) c.loop-i.invariant).1

@@ -1,6 +1,6 @@
 use Rattle.std.proofs.Common.{◌≡◌, ◌<◌, ◌∙◌, arith, length, ap, sym}
 use Rattle.std.specs.Prelude.{Some, slice_get, slice_index_or}
-use Rattle.std.proofs.lemmas.Option.{get_or_from_slice_get}
+use Rattle.std.proofs.lemmas.Option.{get_or_from_slice_get, slice_get_within}
 use Rattle.zk_model.specs.Mac.{pair_at}
 use Rattle.zk_model.specs.declared.Product as zk
 use Rattle.wire_auth.specs.Held.{items_in}
@@ -20,29 +20,26 @@ returns c product at = λ j. record { a = a_is j; b = b_is j; c = c_is j }
         sym (get_or_from_slice_get c.self.inside.program.now.products c.args.i c.product-product.result product c.product-product.ensures.product)
         ∙ get_or_from_slice_get c.self.inside.program.now.products c.args.i product product inside_at
 
-    number : product.c ≡ c.args.i
-    number = c.product-product.ensures.held.numbered c.args.i product inside_at
-
     a_is : c.wire.result ≡ pair_at c.args.self.now.pairs.wires product.a
     a_is = c.wire.ensures ∙ ap (λ (p : zk.Product). pair_at c.args.self.now.pairs.wires p.a) same
 
     b_is : c.wire-2.result ≡ pair_at c.args.self.now.pairs.wires product.b
     b_is = c.wire-2.ensures ∙ ap (λ (p : zk.Product). pair_at c.args.self.now.pairs.wires p.b) same
 
-    within : c.args.i < length (items_in c.self.inside.dealt)
+    within : product.c < length (items_in c.self.inside.dealt)
     within = omega (
       arith,
-      c.requires,
+      c.product-product.ensures.held.numbered c.args.i product inside_at,
+      slice_get_within c.self.inside.program.now.products c.args.i product inside_at,
       c.product-product.ensures.held.counted,
-      ap (λ (side : ProverSide). length side.program.products) c.self.view_is,
       c.self.invariant.2,
     )
 
-    dealt_is : c.index-dealt-product.result ≡ slice_index_or (items_in c.self.inside.dealt) c.args.i c.index-dealt-product.result
+    dealt_is : c.index-dealt-product.result ≡ slice_index_or (items_in c.self.inside.dealt) product.c c.index-dealt-product.result
     dealt_is =
         c.index-dealt-product.is
         ∙ (λ j. slice_index_or ((c.dealt.ensures.dealt ∙ ap (λ (side : ProverSide). side.dealt) (sym c.self.view_is)) j)
-        ((ap (λ (p : zk.Product). p.c) same ∙ number) j) c.index-dealt-product.result)
+        (same j).c c.index-dealt-product.result)
 
     c_is : record { x = c.given_value.result; m = c.dealt-2.inside.m } ≡ pair_at c.args.self.now.pairs.given product.c
     c_is =
@@ -51,8 +48,6 @@ returns c product at = λ j. record { a = a_is j; b = b_is j; c = c_is j }
               ∙ (λ k. given_value c.self.inside.program.now (c.deref.ensures.value k) (same k))) j;
           m = (c.dealt-2.view_is j).m;
         })
-        ∙ sym (given_pair_at c.self.inside.program.now c.self.inside.values.items (items_in c.self.inside.dealt) c.args.i product c.index-dealt-product.result inside_at within dealt_is)
-        ∙ (λ j. pair_at (c.self.view_is j).pairs.given (number_back j))
-      where
-        number_back : c.args.i ≡ product.c
-        number_back = sym number
+        ∙ sym (given_pair_at c.self.inside.program.now c.self.inside.values.items (items_in c.self.inside.dealt) c.args.i product c.index-dealt-product.result
+        c.product-product.ensures.held inside_at within dealt_is)
+        ∙ ap (λ (side : ProverSide). pair_at side.pairs.given product.c) c.self.view_is

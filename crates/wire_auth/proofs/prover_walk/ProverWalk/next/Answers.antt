@@ -6,6 +6,7 @@ use Rattle.zk_model.specs.Program.{Program}
 use Rattle.zk_model.specs.Mac.{Pair, macs_of}
 use Rattle.zk_model.specs.Check.{Triple, product_triple}
 use Rattle.zk_model.specs.declared.Product as zk
+use Rattle.field_program.specs.Counts.{unchecked}
 use Rattle.field_program.specs.Programs.{IsSmallProgram}
 use Rattle.wire_auth.specs.Values.{wires_made, given_from, given_value, numbers_carried}
 use Rattle.wire_auth.specs.Walks.{Value, Mac, ProverWalking, IsProverWalk}
@@ -16,7 +17,7 @@ use Rattle.wire_auth.proofs.prover_walk.ProverWalk.next.Goals as goal
 pub returns-in_err-a-clause-met : goal.returns-in_err-a-clause-met
 returns-in_err-a-clause-met c =
     subst (λ (w : ProverWalking). w.met ≡ min (w.met + 1) (length w.side.program.products)) c.self.view_is
-    (none_more c.self.inside.pairs.met (length c.self.inside.pairs.program.products) c.met-met.ensures.within (c.in_err-a.ensures.none.0 refl))
+    (none_more c.self.inside.pairs.met (length c.self.inside.pairs.program.products) c.next_given-next.ensures.within (c.in_err-a.ensures.none.0 refl))
 
 abbrev values : goal.After-meet → List ℕ
 values c = wires_made c.self.inside.pairs.program c.self.inside.public.now c.self.inside.inputs.now
@@ -37,7 +38,9 @@ factors_are c product stands =
 value_is : (c : goal.After-meet) (product : zk.Product) → slice_get c.self.inside.pairs.program.products c.self.inside.pairs.met ≡ Some product
     → c.given_number.result ≡ given_value c.self.inside.pairs.program (values c) product
 value_is c product stands =
-    c.given_number.ensures product (values c) ((λ i. slice_get (c.program-program.ensures i).products (c.met-met.ensures.met i)) ∙ stands)
+    c.given_number.ensures c.self.inside.pairs.met product (values c)
+    (ap (λ (p : Program). slice_get p.products c.self.inside.pairs.met) c.program-program.ensures ∙ stands)
+    ((small c).numbered c.self.inside.pairs.met product stands ∙ sym c.next_given-next.ensures.number)
     (ap (λ (p : Pair). p.x) c.a.view_is ∙ (factors_are c product stands).0) (ap (λ (p : Pair). p.x) c.b.view_is ∙ (factors_are c product stands).1)
     ∙ ap (λ (p : Program). given_value p (values c) product) c.program-program.ensures
 
@@ -47,8 +50,8 @@ more c = ⊎_elim (λ below. below) (λ none. absurd (false≢true (sym (c.in_ok
     (cases_lt c.self.inside.pairs.met (length c.self.inside.pairs.program.products))
 
 -- the MAC is that of the dealt pair
-mac_is : (c : goal.After-meet) → c.dealt_mac.result ≡ slice_index (macs_of c.self.inside.dealt.now) c.self.inside.pairs.met
-mac_is c = c.dealt_mac.ensures ∙ ap (slice_index (macs_of c.self.inside.dealt.now)) c.met-met.ensures.met
+mac_is : (c : goal.After-meet) → c.dealt_mac.result ≡ slice_index (macs_of c.self.inside.dealt.now) (unchecked c.self.inside.pairs.program + c.self.inside.pairs.met)
+mac_is c = c.dealt_mac.ensures ∙ ap (slice_index (macs_of c.self.inside.dealt.now)) c.next_given-next.ensures.number
 
 pub invariant_of-self : goal.invariant_of-self
 invariant_of-self c =
@@ -59,9 +62,9 @@ invariant_of-self c =
       input_count = c.self.invariant.input_count;
       enough = c.self.invariant.enough;
       of_values = c.meet.ensures.follows Value (values c) (given_from c.self.inside.pairs.program (values c))
-          (value_is c product stands ∙ sym (given_at c.self.inside.pairs.program (values c) c.self.inside.pairs.met product stands)) c.self.invariant.of_values;
+          (value_is c product stands ∙ sym (given_at c.self.inside.pairs.program (values c) c.self.inside.pairs.met (unchecked c.self.inside.pairs.program + c.self.inside.pairs.met) product stands refl)) c.self.invariant.of_values;
       of_macs = c.meet.ensures.follows Mac (macs c) (take c.self.inside.pairs.program.givens (macs_of c.self.inside.dealt.now))
-          (mac_at c.self.inside.pairs.program c.self.inside.dealt.now c.self.inside.pairs.met c.dealt_mac.result (let below = more c in omega (arith, below, (small c).counted))
+          (mac_at c.self.inside.pairs.program c.self.inside.dealt.now (unchecked c.self.inside.pairs.program + c.self.inside.pairs.met) c.dealt_mac.result (let below = more c in omega (arith, below, (small c).counted))
           (mac_is c)) c.self.invariant.of_macs;
     })
   where
@@ -78,7 +81,8 @@ returns-clause-some c product stands =
     c.in_ok-a.a.x c.in_ok-a.b.x c.in_ok-a.a.m c.in_ok-a.b.m c.given_number.result c.dealt_mac.result product
     (small c) c.self.invariant.public_count c.self.invariant.input_count c.self.invariant.enough here (factors_are c product here)
     (c.in_ok-a.ensures.some Mac (macs c) (take c.self.inside.pairs.program.givens (macs_of c.self.inside.dealt.now)) product c.self.invariant.of_macs here)
-    (value_is c product here) (mac_is c)
+    (value_is c product here)
+    (mac_is c ∙ ap (slice_index (macs_of c.self.inside.dealt.now)) (sym ((small c).numbered c.self.inside.pairs.met product here)))
     ∙ ap (λ (w : ProverWalking). product_triple w.side.pairs product) c.self.view_is)
   where
     here : slice_get c.self.inside.pairs.program.products c.self.inside.pairs.met ≡ Some product

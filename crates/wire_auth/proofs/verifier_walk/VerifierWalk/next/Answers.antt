@@ -6,6 +6,7 @@ use Rattle.zk_model.specs.Field.{◌+ₚ◌, ◌*ₚ◌}
 use Rattle.zk_model.specs.Program.{Program}
 use Rattle.zk_model.specs.Mac.{corrected_keys}
 use Rattle.zk_model.specs.Check.{KeyTriple, key_triple}
+use Rattle.field_program.specs.Counts.{unchecked}
 use Rattle.field_program.specs.Programs.{IsSmallProgram}
 use Rattle.wire_auth.specs.Values.{numbers_carried}
 use Rattle.wire_auth.specs.Walks.{Value, VerifierWalking, IsVerifierWalk}
@@ -15,7 +16,7 @@ use Rattle.wire_auth.proofs.verifier_walk.VerifierWalk.next.Goals as goal
 pub returns-in_err-a-clause-met : goal.returns-in_err-a-clause-met
 returns-in_err-a-clause-met c =
     subst (λ (w : VerifierWalking). w.met ≡ min (w.met + 1) (length w.side.program.products)) c.self.view_is
-    (none_more c.self.inside.walk.met (length c.self.inside.walk.program.products) c.met-met.ensures.within (c.in_err-a.ensures.none.0 refl))
+    (none_more c.self.inside.walk.met (length c.self.inside.walk.program.products) c.next_given-next.ensures.within (c.in_err-a.ensures.none.0 refl))
 
 abbrev given : goal.After-meet → List ℕ
 given c = corrected_keys c.self.inside.key c.self.inside.keys.now c.self.inside.corrections.now
@@ -27,23 +28,27 @@ more : (c : goal.After-meet) → c.self.inside.walk.met < length c.self.inside.w
 more c = ⊎_elim (λ below. below) (λ none. absurd (false≢true (sym (c.in_ok-a.ensures.none.1 none))))
     (cases_lt c.self.inside.walk.met (length c.self.inside.walk.program.products))
 
--- the key of the product's value
-key_is : (c : goal.After-meet) → c.add-c.result ≡ slice_index (given c) c.self.inside.walk.met
+-- the number of the product's value
+abbrev number : goal.After-meet → ℕ
+number c = unchecked c.self.inside.walk.program + c.self.inside.walk.met
+
+-- and its key
+key_is : (c : goal.After-meet) → c.add-c.result ≡ slice_index (given c) (number c)
 key_is c =
     c.add-c.ensures
     ∙ (λ i. dealt i +ₚ (c.mul.ensures ∙ ap (λ n. n *ₚ c.self.inside.key) correction) i)
-    ∙ sym (key_at c.self.inside.key c.self.inside.keys.now c.self.inside.corrections.now c.self.inside.walk.met (omega (arith, below, c.self.invariant.enough)) (omega (arith, below, c.self.invariant.one_each)))
+    ∙ sym (key_at c.self.inside.key c.self.inside.keys.now c.self.inside.corrections.now (number c) (omega (arith, below, c.self.invariant.enough)) (omega (arith, below, c.self.invariant.one_each)))
   where
-    below : c.self.inside.walk.met < c.self.inside.walk.program.givens
+    below : number c < c.self.inside.walk.program.givens
     below = let less = more c in omega (arith, less, (small c).counted)
 
-    dealt : get_or c.self.inside.keys.now c.met-met.result c.index-self-met.result ≡ slice_index c.self.inside.keys.now c.self.inside.walk.met
-    dealt = ap (λ n. get_or c.self.inside.keys.now n c.index-self-met.result) c.met-met.ensures.met
-        ∙ get_or_default c.self.inside.keys.now c.self.inside.walk.met c.index-self-met.result 0 (omega (arith, below, c.self.invariant.enough))
+    dealt : get_or c.self.inside.keys.now c.next_given-next.result c.index-self-next.result ≡ slice_index c.self.inside.keys.now (number c)
+    dealt = ap (λ n. get_or c.self.inside.keys.now n c.index-self-next.result) c.next_given-next.ensures.number
+        ∙ get_or_default c.self.inside.keys.now (number c) c.index-self-next.result 0 (omega (arith, below, c.self.invariant.enough))
 
-    correction : get_or c.self.inside.corrections.now c.met-met.result c.index-self-met-2.result ≡ slice_index c.self.inside.corrections.now c.self.inside.walk.met
-    correction = ap (λ n. get_or c.self.inside.corrections.now n c.index-self-met-2.result) c.met-met.ensures.met
-        ∙ get_or_default c.self.inside.corrections.now c.self.inside.walk.met c.index-self-met-2.result 0 (omega (arith, below, c.self.invariant.one_each))
+    correction : get_or c.self.inside.corrections.now c.next_given-next.result c.index-self-next-2.result ≡ slice_index c.self.inside.corrections.now (number c)
+    correction = ap (λ n. get_or c.self.inside.corrections.now n c.index-self-next-2.result) c.next_given-next.ensures.number
+        ∙ get_or_default c.self.inside.corrections.now (number c) c.index-self-next-2.result 0 (omega (arith, below, c.self.invariant.one_each))
 
 pub invariant_of-self : goal.invariant_of-self
 invariant_of-self c =

@@ -1,6 +1,7 @@
-use Rattle.std.proofs.Common.{◌≡◌, subst, sym, ap, arith, ◌∙◌}
+use Rattle.std.proofs.Common.{◌≡◌, ◌+◌, subst, sym, ap, arith, ◌∙◌}
 use Rattle.std.specs.Prelude.{Some, slice_get, slice_index}
 use Rattle.zk_model.specs.Slots.{IsLive}
+use Rattle.field_program.specs.Counts.{unchecked}
 use Rattle.wire_auth.specs.Walks.{Walking, Follows}
 use Rattle.wire_auth.proofs.Along.{factors_live}
 use Rattle.wire_auth.proofs.HeldNumbers.{read_slot}
@@ -24,8 +25,13 @@ returns-clause-some g c which wires given product follows stands = (
     here : slice_get c.self.inside.program.now.products c.self.inside.met ≡ Some product
     here = ap (λ (w : Walking g.row.N.Denot). slice_get w.program.products w.met) c.self.view_is ∙ stands
 
+    number : product.c ≡ unchecked c.self.inside.program.now + c.self.inside.met
+    number = c.products.ensures.held.numbered c.self.inside.met product here
+
     live : IsLive c.self.inside.program.now c.self.inside.steps product.a × IsLive c.self.inside.program.now c.self.inside.steps product.b
-    live = factors_live c.self.inside.program.now c.self.inside.steps c.self.inside.met product c.products.ensures.held c.self.invariant.0 here
+    live = factors_live c.self.inside.program.now c.self.inside.steps (unchecked c.self.inside.program.now + c.self.inside.met) c.self.inside.met product
+        c.products.ensures.held c.self.invariant.0 here number
 
     slots : (c.factor_slots-a.result.0 ≡ slice_index before.plan.places product.a) × (c.factor_slots-a.result.1 ≡ slice_index before.plan.places product.b)
-    slots = c.factor_slots-a.ensures.factors before.plan product here
+    slots = c.factor_slots-a.ensures.factors before.plan c.self.inside.met product here
+        (number ∙ ap (λ (w : Walking g.row.N.Denot). unchecked w.program + w.met) c.self.view_is ∙ sym c.next_given-next.ensures.number)

@@ -1,5 +1,6 @@
-use Rattle.std.proofs.Common.{ap, arith, length, subst, sym, ◌∙◌}
+use Rattle.std.proofs.Common.{◌+◌, ap, arith, length, subst, sym, ◌∙◌}
 use Rattle.std.specs.Prelude.{slice_index}
+use Rattle.field_program.specs.Counts.{unchecked}
 use Rattle.wire_auth.specs.Walks.{Walking, Follows}
 use Rattle.wire_auth.proofs.walking.StepWalk.meet.Goals as goal
 
@@ -19,5 +20,6 @@ returns-clause-follows g c which wires given number follows =
       equations = before.equations;
       plan = before.plan;
       held = c.pass_product-self-inside.ensures.held which before.plan wires given before.equations
-          (number ∙ ap (λ (w : Walking g.row.N.Denot). slice_index given w.met) (sym c.self.view_is)) before.held;
+          (number ∙ ap (λ (w : Walking g.row.N.Denot). slice_index given (unchecked w.program + w.met)) (sym c.self.view_is)
+          ∙ ap (λ n. slice_index given (n + c.self.inside.met)) (sym c.unchecked.ensures.count)) before.held;
     }
