@@ -37,9 +37,9 @@ whole_read task log t file accepted = record {
 }
 
 none_after : (task : VerifierTask) (log : List ℕ) (t : Transcript) → IsAcceptedLog task log t
-    → place_after task.file.params task.statement.program (session_frames t) ≡ None
+    → place_after task.file.params task.statement (session_frames t) ≡ None
 none_after task log t accepted =
-    none_behind task.file.params task.statement.program t.commitment.setup
+    none_behind task.file.params task.statement t.commitment.setup
     (corrections t.commitment.corrections ∷ challenge t.challenge ∷ sums t.sums ∷ openings t.openings ∷ verdict t.code t.number ∷ [])
     accepted.served.in_order.transcript.commitment.setup refl
 

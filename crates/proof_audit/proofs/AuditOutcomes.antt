@@ -1,5 +1,6 @@
 -- What is said of an audit gives what its record promises.
 use Rattle.std.proofs.Common.{◌≡◌, ◌⊎◌, ℕ, List, Option, refl, ap, sym, ◌∙◌, inl, inr, arith}
+use Rattle.zk_model.specs.Headline.{AreSatisfyingBits}
 use Rattle.zk_model.specs.Audit.{IsFoundIn}
 use Rattle.zk_model.specs.Circuit.{Circuit}
 use Rattle.zk_model.specs.Files.{ProverFile, VerifierFile, IsProverFile, AreDealt}
@@ -176,7 +177,7 @@ found_there found = record {
 -- two findings of the session are one
 same_finding : AcceptedLogsAreRight → OneAnswer → (ask : AuditAsk Bits) (shelf : ShelfChange) (only : model.Finding)
     → IsAuditable shelf.old.told ask only → (found : HasAudit shelf.old.told ask (λ circuit prover task log. Unit {0})) → (finding : model.Finding)
-    → IsFoundIn found.circuit ask.public ask.outputs found.prover found.task found.log finding → finding ≡ only
+    → IsFoundIn (AreSatisfyingBits found.circuit ask.public ask.outputs) found.prover found.task found.log finding → finding ≡ only
 same_finding right one ask shelf only ready found finding is =
     let session = ready.found found.circuit found.prover found.task found.log found.files found.loaded in
     one found.circuit ask.public ask.outputs found.prover found.task found.log session.t finding only

@@ -9,7 +9,7 @@ use Rattle.zk_model.specs.Statement.{circuit_statement}
 use Rattle.zk_model.specs.Transcript.{Transcript, IsTranscript, spelling}
 use Rattle.zk_model.specs.Finding as model
 use Rattle.zk_model.specs.Finding.{IsFinding}
-use Rattle.zk_model.specs.Headline.{AreSatisfyingBits, SaysOutputs, ShowsOutputs}
+use Rattle.zk_model.specs.Headline.{AreSatisfyingBits, SaysInputs, ShowsOutputs}
 use Rattle.zk_model.specs.Audit.{bytes_in, IsFoundIn}
 use Rattle.zk_model.specs.declared.Params.{Params}
 use Rattle.zk_laws.proofs.Extracted.{extraction_holds}
@@ -60,12 +60,12 @@ pub found_in : (circuit : Circuit) (digest : List ℕ) (public outputs : List Bo
     (s : Session) (finding : model.Finding) → (about : IsAbout circuit digest public outputs prover verifier log s)
     → IsFinding prover (circuit_statement circuit digest public outputs)
     (transcript_read (audit_task circuit digest public outputs verifier) about.audited.greeting s 0 0) finding
-    → IsFoundIn circuit public outputs prover (audit_task circuit digest public outputs verifier) log finding
+    → IsFoundIn (AreSatisfyingBits circuit public outputs) prover (audit_task circuit digest public outputs verifier) log finding
 found_in circuit digest public outputs prover verifier log s finding about found = record {
   t = t;
   accepted = record { served = about.audited.served; bytes = about.bytes };
   found = found;
-  says = subst (SaysOutputs circuit public outputs verifier.key (circuit_statement circuit digest public outputs) t)
+  says = subst (SaysInputs (AreSatisfyingBits circuit public outputs) verifier.key (circuit_statement circuit digest public outputs) t)
       (one_finding prover (circuit_statement circuit digest public outputs) t shown.finding finding about.audited.prover_file
       about.audited.served.in_order.stated
       (subst (λ (params : Params). IsTranscript params (circuit_statement circuit digest public outputs).program t)
@@ -107,7 +107,7 @@ gives_so circuit digest public outputs prover verifier log s (KeyRoot polynomial
     found_in circuit digest public outputs prover verifier log s (model.found_key_root polynomial.items) about gives
 gives_so circuit digest public outputs prover verifier log s (Inputs bits) about gives =
     let found = found_in circuit digest public outputs prover verifier log s (model.found_inputs gives.inputs) about gives.found in
-    subst (λ (inputs : List ℕ). IsFoundIn circuit public outputs prover (audit_task circuit digest public outputs verifier) log (model.found_inputs inputs))
+    subst (λ (inputs : List ℕ). IsFoundIn (AreSatisfyingBits circuit public outputs) prover (audit_task circuit digest public outputs verifier) log (model.found_inputs inputs))
     (bits_found circuit public outputs gives.inputs bits.items found.says gives.bits_are) found
 
 pub finds : (circuit : Circuit) (digest : List ℕ) (public outputs : List Bool) (prover : ProverFile) (verifier : VerifierFile) (log : List ℕ)

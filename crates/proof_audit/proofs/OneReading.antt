@@ -61,19 +61,19 @@ abbrev pub Reads : List Frame → List Frame → List ℕ → Type 0
 Reads frames others rest = (more : List Frame) × (others ≡ frames ++ more) × (rest ≡ frames_spelling more)
 
 one_reading : (task : VerifierTask) (before frames others : List Frame) (rest : List ℕ) → AreFaultless task (before ++ frames)
-    → AreFaultless task (before ++ others) → place_after task.file.params task.statement.program (before ++ others) ≡ None
+    → AreFaultless task (before ++ others) → place_after task.file.params task.statement (before ++ others) ≡ None
     → frames_spelling frames ++ rest ≡ frames_spelling others → Reads frames others rest
 one_reading task before [] others rest some whole none same = (others, refl, same)
 one_reading task before (f ∷ frames) [] rest some whole none same =
     let right = some before f frames refl in
     let at = right.placed.place_is in
-    let end = ap (place_after task.file.params task.statement.program) (sym (append-nil before)) ∙ none in
+    let end = ap (place_after task.file.params task.statement) (sym (append-nil before)) ∙ none in
     cc
 one_reading task before (f ∷ frames) (o ∷ others) rest some whole none same =
     let deeper = one_reading task (before ++ f ∷ []) frames others rest
     (subst (AreFaultless task) (sym (append_assoc before (f ∷ []) frames)) some)
     (subst (AreFaultless task) regrouped whole)
-    (subst (λ fs. place_after task.file.params task.statement.program fs ≡ None) regrouped none)
+    (subst (λ fs. place_after task.file.params task.statement fs ≡ None) regrouped none)
     found.1 in
     (deeper.0, (λ i. sym found.0 i ∷ deeper.1 i), deeper.2)
   where
@@ -129,15 +129,15 @@ not_bad place one rest behind n allowed front bad = by_length (n_or n (length (f
 
 -- no fault, where all bytes are faultless frames behind which none may follow
 no_fault_in : (task : VerifierTask) (others frames more : List Frame) (rest : List ℕ) (n : ℕ) → AreFaultless task others
-    → place_after task.file.params task.statement.program others ≡ None → others ≡ frames ++ more → rest ≡ frames_spelling more
-    → IsBadAt (place_after task.file.params task.statement.program frames) rest n ⊎ IsWrongAt task frames rest n → ⊥
+    → place_after task.file.params task.statement others ≡ None → others ≡ frames ++ more → rest ≡ frames_spelling more
+    → IsBadAt (place_after task.file.params task.statement frames) rest n ⊎ IsWrongAt task frames rest n → ⊥
 no_fault_in task others frames [] rest n whole none is bytes (inl bad) =
-    let end = ap (place_after task.file.params task.statement.program) (is ∙ append-nil frames) in
+    let end = ap (place_after task.file.params task.statement) (is ∙ append-nil frames) in
     let some = (subst (λ at. IsBadAt at rest n) (sym end ∙ none) bad).1 in
     let empty = ap length bytes in
     absurd (omega (arith, some, empty))
 no_fault_in task others frames [] rest n whole none is bytes (inr wrong) =
-    let end = ap (place_after task.file.params task.statement.program) (is ∙ append-nil frames) in
+    let end = ap (place_after task.file.params task.statement) (is ∙ append-nil frames) in
     let at = wrong.placed.place_is in
     cc
 no_fault_in task others frames (m ∷ more) rest n whole none is bytes (inl bad) =
@@ -157,11 +157,11 @@ no_fault_in task others frames (m ∷ more) rest n whole none is bytes (inr wron
 
 -- nor does it end early
 not_early_in : (task : VerifierTask) (others frames more : List Frame) (rest : List ℕ) (place : Expect) → AreFaultless task others
-    → place_after task.file.params task.statement.program others ≡ None → others ≡ frames ++ more → rest ≡ frames_spelling more
-    → place_after task.file.params task.statement.program frames ≡ Some place
+    → place_after task.file.params task.statement others ≡ None → others ≡ frames ++ more → rest ≡ frames_spelling more
+    → place_after task.file.params task.statement frames ≡ Some place
     → CanGoOn place rest → ((frame : Frame) → ¬ IsWhole place rest frame) → ⊥
 not_early_in task others frames [] rest place whole none is bytes at begun unfinished =
-    let end = ap (place_after task.file.params task.statement.program) (is ∙ append-nil frames) in
+    let end = ap (place_after task.file.params task.statement) (is ∙ append-nil frames) in
     cc
 not_early_in task others frames (m ∷ more) rest place whole none is bytes at begun unfinished =
     unfinished m (record {
@@ -178,7 +178,7 @@ not_early_in task others frames (m ∷ more) rest place whole none is bytes at b
 -- ---- the law
 
 pub read_as : (task : VerifierTask) (log : List ℕ) (others frames : List Frame) (rest : List ℕ) → IsReadAs task log others []
-    → place_after task.file.params task.statement.program others ≡ None → IsReadAs task log frames rest → Reads frames others rest
+    → place_after task.file.params task.statement others ≡ None → IsReadAs task log frames rest → Reads frames others rest
 read_as task log others frames rest whole none read =
     one_reading task [] frames others rest read.faultless whole.faultless none
     (sym read.bytes ∙ whole.bytes ∙ append-nil (frames_spelling others))

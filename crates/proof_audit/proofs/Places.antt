@@ -6,6 +6,7 @@ use Rattle.std.proofs.Math.ListN.{get_or-append}
 use Rattle.std.proofs.lemmas.List.{length-map, get_or-append-add}
 use Rattle.std.proofs.lemmas.List.FromFn.{length-map-range_with_len, get_or-map-range_with_len}
 use Rattle.std.proofs.lemmas.Option.{slice_get-get_or, slice_get_past}
+use Rattle.zk_model.specs.Statement.{Statement}
 use Rattle.zk_model.specs.Program.{Program, section_count}
 use Rattle.zk_model.specs.Files.{rounds_of}
 use Rattle.zk_model.specs.Transcript.{Grant, Round, Setup, IsRound, IsSetup}
@@ -70,24 +71,24 @@ tail_length params program setup tail is =
     ∙ ap (λ n. n + length tail) (rounds_sized params.kind params setup.grant setup.rounds is.round_count is.rounds)
 
 -- the place behind the rounds and so many frames
-pub place_behind : (params : Params) (program : Program) (setup : Setup) (tail : List Frame) (j : ℕ) (place : Expect) → IsSetup params program setup
-    → length tail ≡ j → j < 5 → get_or (last_places program setup.grant) j expect.Verdict ≡ place
-    → place_after params program (setup_frames setup ++ tail) ≡ Some place
-place_behind params program setup tail j place is counted below at =
-    ap (slice_get (places_behind params program setup.grant)) (tail_length params program setup tail is ∙ ap (λ n. length rounds + n) counted)
-    ∙ slice_get-get_or (rounds ++ last_places program setup.grant) (length rounds + j) expect.Verdict
-    (omega (arith, below, length-append rounds (last_places program setup.grant)))
-    ∙ ap Some (get_or-append-add rounds (last_places program setup.grant) j expect.Verdict ∙ at)
+pub place_behind : (params : Params) (statement : Statement) (setup : Setup) (tail : List Frame) (j : ℕ) (place : Expect) → IsSetup params statement.program setup
+    → length tail ≡ j → j < 5 → get_or (last_places statement.program setup.grant) j expect.Verdict ≡ place
+    → place_after params statement (setup_frames setup ++ tail) ≡ Some place
+place_behind params statement setup tail j place is counted below at =
+    ap (slice_get (places_behind params statement.program setup.grant)) (tail_length params statement.program setup tail is ∙ ap (λ n. length rounds + n) counted)
+    ∙ slice_get-get_or (rounds ++ last_places statement.program setup.grant) (length rounds + j) expect.Verdict
+    (omega (arith, below, length-append rounds (last_places statement.program setup.grant)))
+    ∙ ap Some (get_or-append-add rounds (last_places statement.program setup.grant) j expect.Verdict ∙ at)
   where
     rounds : List Expect
     rounds = places_of_rounds params.kind params setup.grant
 
 -- there is none behind five
-pub none_behind : (params : Params) (program : Program) (setup : Setup) (tail : List Frame) → IsSetup params program setup
-    → length tail ≡ 5 → place_after params program (setup_frames setup ++ tail) ≡ None
-none_behind params program setup tail is counted =
-    slice_get_past (rounds ++ last_places program setup.grant) (length (flat_map round_frames setup.rounds ++ tail))
-    (let sized = tail_length params program setup tail is in omega (arith, sized, counted, length-append rounds (last_places program setup.grant)))
+pub none_behind : (params : Params) (statement : Statement) (setup : Setup) (tail : List Frame) → IsSetup params statement.program setup
+    → length tail ≡ 5 → place_after params statement (setup_frames setup ++ tail) ≡ None
+none_behind params statement setup tail is counted =
+    slice_get_past (rounds ++ last_places statement.program setup.grant) (length (flat_map round_frames setup.rounds ++ tail))
+    (let sized = tail_length params statement.program setup tail is in omega (arith, sized, counted, length-append rounds (last_places statement.program setup.grant)))
   where
     rounds : List Expect
     rounds = places_of_rounds params.kind params setup.grant
@@ -102,21 +103,21 @@ one_round params program given extended =
     ∙ ap (λ places. places ++ last_places program given) (append-nil (round_places params given))
 
 -- the place behind as many frames, of which the round has more
-in_round : (params : Params) (program : Program) (given : Grant) (first : Frame) (behind : List Frame) (n : ℕ) (place : Expect) → params.kind ≡ Extended
+in_round : (params : Params) (statement : Statement) (given : Grant) (first : Frame) (behind : List Frame) (n : ℕ) (place : Expect) → params.kind ≡ Extended
     → length behind ≡ n → n < length (round_places params given) → get_or (round_places params given) n expect.Verdict ≡ place
-    → place_after params program (first ∷ grant given ∷ behind) ≡ Some place
-in_round params program given first behind n place extended counted below at =
-    (λ i. slice_get (one_round params program given extended i) (counted i))
-    ∙ slice_get-get_or (round_places params given ++ last_places program given) n expect.Verdict
-    (omega (arith, below, length-append (round_places params given) (last_places program given)))
-    ∙ ap Some (get_or-append (round_places params given) (last_places program given) expect.Verdict n below ∙ at)
+    → place_after params statement (first ∷ grant given ∷ behind) ≡ Some place
+in_round params statement given first behind n place extended counted below at =
+    (λ i. slice_get (one_round params statement.program given extended i) (counted i))
+    ∙ slice_get-get_or (round_places params given ++ last_places statement.program given) n expect.Verdict
+    (omega (arith, below, length-append (round_places params given) (last_places statement.program given)))
+    ∙ ap Some (get_or-append (round_places params given) (last_places statement.program given) expect.Verdict n below ∙ at)
 
 -- of the next ask
-pub place_of_ask : (params : Params) (program : Program) (given : Grant) (first : Frame) (behind : List Frame) (n : ℕ) → params.kind ≡ Extended
+pub place_of_ask : (params : Params) (statement : Statement) (given : Grant) (first : Frame) (behind : List Frame) (n : ℕ) → params.kind ≡ Extended
     → length behind ≡ n → n < given.count
-    → place_after params program (first ∷ grant given ∷ behind) ≡ Some (expect.Ask params.height params.trees (given.count - n))
-place_of_ask params program given first behind n extended counted below =
-    in_round params program given first behind n (ask_place params given n) extended counted
+    → place_after params statement (first ∷ grant given ∷ behind) ≡ Some (expect.Ask params.height params.trees (given.count - n))
+place_of_ask params statement given first behind n extended counted below =
+    in_round params statement given first behind n (ask_place params given n) extended counted
     (omega (arith, below, asked, length-append (map (ask_place params given) (range_with_len 0 given.count)) (map (reply_place params given) (range_with_len 0 given.count))))
     (get_or-append (map (ask_place params given) (range_with_len 0 given.count)) _ expect.Verdict n (omega (arith, below, asked))
     ∙ get_or-map-range_with_len (ask_place params given) 0 given.count n n expect.Verdict below (omega arith))
@@ -125,11 +126,11 @@ place_of_ask params program given first behind n extended counted below =
     asked = length-map-range_with_len (ask_place params given) 0 given.count
 
 -- and of the next reply
-pub place_of_reply : (params : Params) (program : Program) (given : Grant) (first : Frame) (behind : List Frame) (n : ℕ) → params.kind ≡ Extended
+pub place_of_reply : (params : Params) (statement : Statement) (given : Grant) (first : Frame) (behind : List Frame) (n : ℕ) → params.kind ≡ Extended
     → length behind ≡ given.count + n → n < given.count
-    → place_after params program (first ∷ grant given ∷ behind) ≡ Some (expect.Reply params.height params.trees (given.count - n))
-place_of_reply params program given first behind n extended counted below =
-    in_round params program given first behind (length asked + n) (reply_place params given n) extended (counted ∙ ap (λ m. m + n) (sym sized))
+    → place_after params statement (first ∷ grant given ∷ behind) ≡ Some (expect.Reply params.height params.trees (given.count - n))
+place_of_reply params statement given first behind n extended counted below =
+    in_round params statement given first behind (length asked + n) (reply_place params given n) extended (counted ∙ ap (λ m. m + n) (sym sized))
     (omega (arith, below, sized, replied, length-append asked (map (reply_place params given) (range_with_len 0 given.count))))
     (get_or-append-add asked (map (reply_place params given) (range_with_len 0 given.count)) n expect.Verdict
     ∙ get_or-map-range_with_len (reply_place params given) 0 given.count n n expect.Verdict below (omega arith))

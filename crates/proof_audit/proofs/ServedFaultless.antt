@@ -12,7 +12,8 @@ use Rattle.zk_model.specs.Transcript.{Hello, Grant, TreeAsk, TreeReply, Round, T
 use Rattle.zk_model.specs.Frames.{Frame, hello, grant, asks, replies, corrections, challenge, sums, openings, verdict, FitsGrant, AreAsks, AreReplies}
 use Rattle.zk_model.specs.Replies.{unit_reply}
 use Rattle.zk_model.specs.ServedVerifier.{VerifierTask, IsServed, round_replies}
-use Rattle.zk_model.specs.Audit.{round_frames, setup_frames, session_frames, IsRight, AreFaultless}
+use Rattle.frame_laws.proofs.Hellos.{hello_allowed}
+use Rattle.zk_model.specs.Audit.{round_frames, setup_frames, session_frames, hello_place, IsRight, AreFaultless}
 use Rattle.zk_model.specs.declared.Expect.TheVariants as expect
 use Rattle.zk_model.specs.declared.Kind.{Kind}
 use Rattle.zk_model.specs.declared.Kind.TheVariants.{Direct, Extended}
@@ -56,7 +57,7 @@ asks_right task h g asked extended counted all mid frame behind is =
     subst (λ f. IsRight task (hello h ∷ grant g ∷ mid) f) same (record {
       place = expect.Ask task.file.params.height task.file.params.trees (g.count - length mid);
       placed = record {
-        place_is = place_of_ask task.file.params task.statement.program g (hello h) mid (length mid) extended refl (omega (arith, below, counted));
+        place_is = place_of_ask task.file.params task.statement g (hello h) mid (length mid) extended refl (omega (arith, below, counted));
         allowed = (get_or asked (length mid) [], refl, all (length mid) [] below);
       };
       given = tt;
@@ -79,7 +80,7 @@ replies_right task h g asked said extended counted said_counted all due mid fram
     subst (λ f. IsRight task (hello h ∷ grant g ∷ map asks asked ++ mid) f) same (record {
       place = expect.Reply task.file.params.height task.file.params.trees (g.count - length mid);
       placed = record {
-        place_is = place_of_reply task.file.params task.statement.program g (hello h) (map asks asked ++ mid) (length mid) extended sized
+        place_is = place_of_reply task.file.params task.statement g (hello h) (map asks asked ++ mid) (length mid) extended sized
             (omega (arith, below, said_counted));
         allowed = (get_or said (length mid) [], refl, all (length mid) [] below);
       };
@@ -159,7 +160,7 @@ served_faultless task t judged log file served =
     (record {
       place = expect.Corrections task.statement.program.givens;
       placed = record {
-        place_is = place_behind task.file.params task.statement.program t.commitment.setup [] 0 (expect.Corrections task.statement.program.givens)
+        place_is = place_behind task.file.params task.statement t.commitment.setup [] 0 (expect.Corrections task.statement.program.givens)
             whole.commitment.setup refl (omega arith) refl;
         allowed = (t.commitment.corrections, refl, record { counted = whole.commitment.count; ranged = whole.commitment.elements });
       };
@@ -168,7 +169,7 @@ served_faultless task t judged log file served =
     (record {
       place = expect.Challenge;
       placed = record {
-        place_is = place_behind task.file.params task.statement.program t.commitment.setup (corrections t.commitment.corrections ∷ []) 1 expect.Challenge
+        place_is = place_behind task.file.params task.statement t.commitment.setup (corrections t.commitment.corrections ∷ []) 1 expect.Challenge
             whole.commitment.setup refl (omega arith) refl;
         allowed = (t.challenge, refl, whole.challenge);
       };
@@ -182,7 +183,7 @@ served_faultless task t judged log file served =
     (record {
       place = expect.Sums (section_count task.statement.program t.commitment.setup.grant.section_length);
       placed = record {
-        place_is = place_behind task.file.params task.statement.program t.commitment.setup
+        place_is = place_behind task.file.params task.statement t.commitment.setup
             (corrections t.commitment.corrections ∷ challenge t.challenge ∷ []) 2
             (expect.Sums (section_count task.statement.program t.commitment.setup.grant.section_length)) whole.commitment.setup refl (omega arith) refl;
         allowed = (t.sums, refl, record { counted = whole.sum_count; ranged = whole.sums });
@@ -192,7 +193,7 @@ served_faultless task t judged log file served =
     (record {
       place = expect.Openings (length task.statement.program.opened);
       placed = record {
-        place_is = place_behind task.file.params task.statement.program t.commitment.setup
+        place_is = place_behind task.file.params task.statement t.commitment.setup
             (corrections t.commitment.corrections ∷ challenge t.challenge ∷ sums t.sums ∷ []) 3
             (expect.Openings (length task.statement.program.opened)) whole.commitment.setup refl (omega arith) refl;
         allowed = (t.openings, refl, record { counted = whole.opening_count; ranged = whole.openings });
@@ -202,7 +203,7 @@ served_faultless task t judged log file served =
     (record {
       place = expect.Verdict;
       placed = record {
-        place_is = place_behind task.file.params task.statement.program t.commitment.setup
+        place_is = place_behind task.file.params task.statement t.commitment.setup
             (corrections t.commitment.corrections ∷ challenge t.challenge ∷ sums t.sums ∷ openings t.openings ∷ []) 4
             expect.Verdict whole.commitment.setup refl (omega arith) refl;
         allowed = (t.code, t.number, refl, record { said = whole.code; numbered = whole.number });
@@ -228,8 +229,11 @@ served_faultless task t judged log file served =
 
     greeted : AreFaultless task (hello t.commitment.setup.hello ∷ [])
     greeted = more_faultless task [] (hello t.commitment.setup.hello) (none_faultless task) (record {
-      place = expect.Hello;
-      placed = record { place_is = refl; allowed = (t.commitment.setup.hello, refl, whole.commitment.setup.hello) };
+      place = hello_place task.statement.kind;
+      placed = record {
+        place_is = refl;
+        allowed = hello_allowed task.statement.kind t.commitment.setup.hello whole.commitment.setup.hello served.in_order.hello.form;
+      };
       given = served.in_order.hello;
     })
 

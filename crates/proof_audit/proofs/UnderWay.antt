@@ -26,32 +26,32 @@ use Rattle.proof_audit.proofs.Faultless.{none_faultless, more_faultless, more_sp
 
 -- the place of the next frame is that of the stage
 place_is : (task : VerifierTask) (frames : List Frame) (stage : Stage) (place : Expect) → Describes task frames stage → expected_at task stage ≡ Some place
-    → place_after task.file.params task.statement.program frames ≡ expected_at task stage
-place_is task frames at.Hello place described some = ap (place_after task.file.params task.statement.program) described
-place_is task frames at.Grant place described some = ap (place_after task.file.params task.statement.program) described.1
+    → place_after task.file.params task.statement frames ≡ expected_at task stage
+place_is task frames at.Hello place described some = ap (place_after task.file.params task.statement) described
+place_is task frames at.Grant place described some = ap (place_after task.file.params task.statement) described.1
 place_is task frames (at.Asks s) place described some =
-    ap (place_after task.file.params task.statement.program) described.1
-    ∙ place_of_ask task.file.params task.statement.program s.grant (hello described.0) (map asks (asks_of s.asked.items)) (length s.asked.items) described.2.extended
+    ap (place_after task.file.params task.statement) described.1
+    ∙ place_of_ask task.file.params task.statement s.grant (hello described.0) (map asks (asks_of s.asked.items)) (length s.asked.items) described.2.extended
     (length-map (asks_of s.asked.items) asks ∙ length-map s.asked.items (λ (f : coded.Frame). asks_in (frame_value f))) described.3
 place_is task frames (at.Replies s done) place described some =
-    ap (place_after task.file.params task.statement.program) described.1
-    ∙ place_of_reply task.file.params task.statement.program s.grant (hello described.0) _ done described.3
+    ap (place_after task.file.params task.statement) described.1
+    ∙ place_of_reply task.file.params task.statement s.grant (hello described.0) _ done described.3
     (round_facts task s done described.0 described.2 described.3 described.4) described.4
 place_is task frames (at.Corrections s) place described some =
-    ap (place_after task.file.params task.statement.program) (described.1 ∙ sym (append-nil _))
-    ∙ place_behind task.file.params task.statement.program (setup_read task described.0 s) [] 0 _ described.2.whole refl (omega arith) refl
+    ap (place_after task.file.params task.statement) (described.1 ∙ sym (append-nil _))
+    ∙ place_behind task.file.params task.statement (setup_read task described.0 s) [] 0 _ described.2.whole refl (omega arith) refl
 place_is task frames (at.Challenge s) place described some =
-    ap (place_after task.file.params task.statement.program) described.1
-    ∙ place_behind task.file.params task.statement.program (setup_read task described.0 s) _ 1 _ described.2.set.whole refl (omega arith) refl
+    ap (place_after task.file.params task.statement) described.1
+    ∙ place_behind task.file.params task.statement (setup_read task described.0 s) _ 1 _ described.2.set.whole refl (omega arith) refl
 place_is task frames (at.Sums s) place described some =
-    ap (place_after task.file.params task.statement.program) described.1
-    ∙ place_behind task.file.params task.statement.program (setup_read task described.0 s) _ 2 _ described.2.committed.set.whole refl (omega arith) refl
+    ap (place_after task.file.params task.statement) described.1
+    ∙ place_behind task.file.params task.statement (setup_read task described.0 s) _ 2 _ described.2.committed.set.whole refl (omega arith) refl
 place_is task frames (at.Openings s) place described some =
-    ap (place_after task.file.params task.statement.program) described.1
-    ∙ place_behind task.file.params task.statement.program (setup_read task described.0 s) _ 3 _ described.2.challenged.committed.set.whole refl (omega arith) refl
+    ap (place_after task.file.params task.statement) described.1
+    ∙ place_behind task.file.params task.statement (setup_read task described.0 s) _ 3 _ described.2.challenged.committed.set.whole refl (omega arith) refl
 place_is task frames (at.Verdict s) place described some =
-    ap (place_after task.file.params task.statement.program) described.1
-    ∙ place_behind task.file.params task.statement.program (setup_read task described.0 s) _ 4 _ described.2.summed.challenged.committed.set.whole refl (omega arith) refl
+    ap (place_after task.file.params task.statement) described.1
+    ∙ place_behind task.file.params task.statement (setup_read task described.0 s) _ 4 _ described.2.summed.challenged.committed.set.whole refl (omega arith) refl
 place_is task frames (at.Accepted s) place described some = cc
 place_is task frames at.Declined place described some = cc
 
@@ -135,7 +135,7 @@ wrong_fault task log old new stage place frame found some taken wrongs last unde
 
 -- where a stage has no place, there is none
 none_left : (task : VerifierTask) (frames : List Frame) (stage : Stage) → Describes task frames stage → expected_at task stage ≡ None
-    → place_after task.file.params task.statement.program frames ≡ None
+    → place_after task.file.params task.statement frames ≡ None
 none_left task frames at.Hello described none = cc
 none_left task frames at.Grant described none = cc
 none_left task frames (at.Asks s) described none = cc
@@ -146,8 +146,8 @@ none_left task frames (at.Sums s) described none = cc
 none_left task frames (at.Openings s) described none = cc
 none_left task frames (at.Verdict s) described none = cc
 none_left task frames (at.Accepted s) described none =
-    ap (place_after task.file.params task.statement.program) described.1
-    ∙ none_behind task.file.params task.statement.program (setup_read task described.0 s) _ described.2.in_order.transcript.commitment.setup refl
+    ap (place_after task.file.params task.statement) described.1
+    ∙ none_behind task.file.params task.statement (setup_read task described.0 s) _ described.2.in_order.transcript.commitment.setup refl
 none_left task frames at.Declined described none = described.4
 
 -- bytes behind the last frame

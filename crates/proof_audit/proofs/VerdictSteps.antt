@@ -255,8 +255,8 @@ verdict_declines task s frame code number judgement is finds coded numbered some
         verdict code number,
         refl,
         some,
-        ap (place_after task.file.params task.statement.program) (verdict_frames task s described.0 frames code number described.1)
-            ∙ none_behind task.file.params task.statement.program (setup_read task described.0 s) _
+        ap (place_after task.file.params task.statement) (verdict_frames task s described.0 frames code number described.1)
+            ∙ none_behind task.file.params task.statement (setup_read task described.0 s) _
             described.2.summed.challenged.committed.set.whole refl,
       );
     })

@@ -8,6 +8,7 @@ use Rattle.zk_model.specs.Transcript.{Hello, Transcript, spelling}
 use Rattle.zk_model.specs.Finding as model
 use Rattle.zk_model.specs.Finding.{IsFinding}
 use Rattle.zk_model.specs.ServedVerifier.{VerifierTask, IsServed}
+use Rattle.zk_model.specs.Headline.{AreSatisfyingBits}
 use Rattle.zk_model.specs.Audit.{HasFaultAt, IsNotAccepted, IsFoundIn}
 use Rattle.zk_model.specs.declared.Verdict.TheVariants.{Accepted}
 use Rattle.dealer_files.specs.Dealt.{IsFirstApart}
@@ -59,11 +60,11 @@ audit_task circuit digest public outputs file =
 -- what the log gives: the finding of an accepted session, whose inputs are bits; or that none was accepted
 abbrev pub LogGives : Circuit → List Bool → List Bool → ProverFile → VerifierTask → List ℕ → Finding → Type 0
 LogGives circuit public outputs prover task log (Inputs bits) =
-    IsFoundIn circuit public outputs prover task log (model.found_inputs (map from_bit bits.items))
+    IsFoundIn (AreSatisfyingBits circuit public outputs) prover task log (model.found_inputs (map from_bit bits.items))
 LogGives circuit public outputs prover task log (ChallengeRoot section polynomial) =
-    IsFoundIn circuit public outputs prover task log (model.found_challenge_root section polynomial.items)
+    IsFoundIn (AreSatisfyingBits circuit public outputs) prover task log (model.found_challenge_root section polynomial.items)
 LogGives circuit public outputs prover task log (KeyRoot polynomial) =
-    IsFoundIn circuit public outputs prover task log (model.found_key_root polynomial.items)
+    IsFoundIn (AreSatisfyingBits circuit public outputs) prover task log (model.found_key_root polynomial.items)
 LogGives circuit public outputs prover task log NotAccepted = IsNotAccepted task log
 
 -- what an audit finds: the files are dealt together, and the log gives this

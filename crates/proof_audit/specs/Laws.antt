@@ -3,7 +3,7 @@ use Rattle.std.specs.Prelude.{◌≡◌, ℕ, None, Bool, List, []}
 use Rattle.zk_model.specs.Circuit.{Circuit}
 use Rattle.zk_model.specs.Files.{ProverFile, IsProverFile, IsVerifierFile, AreDealt}
 use Rattle.zk_model.specs.Finding.{Finding, IsFinding}
-use Rattle.zk_model.specs.Headline.{ShowsOutputs}
+use Rattle.zk_model.specs.Headline.{AreSatisfyingBits, ShowsOutputs}
 use Rattle.zk_model.specs.Frames.{Frame}
 use Rattle.zk_model.specs.Transcript.{Transcript}
 use Rattle.zk_model.specs.ServedVerifier.{VerifierTask}
@@ -12,7 +12,7 @@ use Rattle.zk_model.specs.Audit.{place_after, IsReadAs, HasFaultAt, EndsEarly, I
 -- a log whose bytes are faultless frames behind which none may follow has no fault, and does not end early
 abbrev pub WholeLogsAreRight : Type 0
 WholeLogsAreRight = (task : VerifierTask) (log : List ℕ) (frames : List Frame) → IsReadAs task log frames []
-    → place_after task.file.params task.statement.program frames ≡ None
+    → place_after task.file.params task.statement frames ≡ None
     → ((place : ℕ) → ¬ HasFaultAt task log place) × ¬ EndsEarly task log
 
 -- the log of a session that the verifier leads and accepts has no fault, and it is not one of a session that is not accepted
@@ -24,7 +24,7 @@ AcceptedLogsAreRight = (task : VerifierTask) (log : List ℕ) (t : Transcript) �
 abbrev pub FoundShowsOutputs : Type 0
 FoundShowsOutputs =
     (circuit : Circuit) (public outputs : List Bool) (prover : ProverFile) (task : VerifierTask)
-    (log : List ℕ) (finding : Finding) → (found : IsFoundIn circuit public outputs prover task log finding)
+    (log : List ℕ) (finding : Finding) → (found : IsFoundIn (AreSatisfyingBits circuit public outputs) prover task log finding)
     → ShowsOutputs circuit public outputs prover task.file.key task.statement found.t
 
 -- what is found in the log of an accepted session is the one finding of that session
@@ -32,5 +32,5 @@ abbrev pub OneAnswer : Type 0
 OneAnswer = (circuit : Circuit) (public outputs : List Bool) (prover : ProverFile) (task : VerifierTask) (log : List ℕ)
     (t : Transcript) (finding other : Finding) → IsProverFile prover → IsVerifierFile task.file
     → AreDealt prover task.file → IsAcceptedLog task log t
-    → IsFoundIn circuit public outputs prover task log finding → IsFinding prover task.statement t other
+    → IsFoundIn (AreSatisfyingBits circuit public outputs) prover task log finding → IsFinding prover task.statement t other
     → finding ≡ other

@@ -8,7 +8,7 @@ use Rattle.zk_model.specs.Transcript.{Hello, Grant, TreeAsk, TreeReply, Round, S
 use Rattle.zk_model.specs.Frames.{Frame, hello, grant, asks, replies, corrections, challenge, sums, openings, AreAsks, AreElements, AreSums}
 use Rattle.zk_model.specs.View.{span_of}
 use Rattle.zk_model.specs.ServedVerifier.{VerifierTask, challenge_coin, RepliesAre, IsServed}
-use Rattle.zk_model.specs.Audit.{setup_frames, session_frames, place_after, IsGiven, Declines}
+use Rattle.zk_model.specs.Audit.{setup_frames, session_frames, hello_place, place_after, IsGiven, Declines}
 use Rattle.zk_model.specs.declared.Expect.{Expect}
 use Rattle.zk_model.specs.declared.Expect.TheVariants as expect
 use Rattle.zk_model.specs.declared.Kind.{Kind}
@@ -165,7 +165,7 @@ Describes task frames (at.Accepted s) = (greeting : Hello)
 Describes task frames at.Declined = (before : List Frame) × (last : Frame)
     × (frames ≡ before ++ last ∷ [])
     × Declines last
-    × (place_after task.file.params task.statement.program frames ≡ None)
+    × (place_after task.file.params task.statement frames ≡ None)
 
 -- some frames leave this stage
 abbrev pub IsDescribed : VerifierTask → Stage → Type 0
@@ -173,7 +173,7 @@ IsDescribed task stage = (frames : List Frame) × Describes task frames stage
 
 -- the place of the next frame
 abbrev pub expected_at : VerifierTask → Stage → Option Expect
-expected_at task at.Hello = Some expect.Hello
+expected_at task at.Hello = Some (hello_place task.statement.kind)
 expected_at task at.Grant = Some expect.Grant
 expected_at task (at.Asks s) =
     Some (expect.Ask task.file.params.height task.file.params.trees (s.grant.count - length s.asked.items))

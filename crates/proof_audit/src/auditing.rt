@@ -16,6 +16,7 @@ use crate::seen::SeenWires;
 use crate::session::Session;
 use bristol_reader::Circuit;
 use check_findings::Finding;
+use circuit_laws::products_are_numbered;
 use dealer_files::{NotDealt, ProverFile, VerifierFile, dealt};
 use session_core::{CircuitClaim, Statement};
 use std::alloc::{AllocError, Global};
@@ -39,6 +40,7 @@ fn session_finding(
     session: &Session,
 ) -> Result<Finding, AllocError>
     requires claims { statement.now.claims ≡ map from_bit outputs.now }
+    requires checked { statement.now.program.givens ≤ length statement.now.program.products }
     requires audited { (task : VerifierTask) × (task.statement ≡ statement.now)
         × IsAudited prover.now task session.now × (task.file ≡ verifier.now) }
     ensures { IfOk result (λ finding. (task : VerifierTask) → task.statement ≡ statement.now
@@ -87,6 +89,7 @@ pub fn audit(
     ensures fault { IfErr result (AuditCause prover.now
         (audit_task circuit digest public.now outputs.now verifier.now) log.now) }
 {
+    products_are_numbered();
     let _circuit = circuit.wires();
     let _prover = prover.total();
     let _verifier = verifier.total();

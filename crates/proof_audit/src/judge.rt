@@ -10,6 +10,7 @@ ghost use Rattle.zk_model.specs.declared.Kind.TheVariants.{Extended};
 ghost use Rattle.zk_model.specs.Program.{section_count};
 ghost use Rattle.zk_model.specs.Statement.{IsStatement};
 ghost use Rattle.zk_model.specs.Transcript.{IsGrant};
+ghost use Rattle.zk_model.specs.Audit.{hello_place};
 ghost use Rattle.zk_model.specs.declared.Expect.TheVariants as expect;
 ghost use Rattle.proof_frames.specs.Frames.{frame_value};
 ghost use Rattle.proof_frames.specs.Readings.{IsShortPlace};
@@ -124,7 +125,7 @@ impl<'a> Judge<'a> {
         let height = usize::from(height);
         let trees = trees as usize;
         match stage {
-            Stage::Hello => Some(Expect::Hello),
+            Stage::Hello => Some(self.statement.hello_place()),
             Stage::Grant => Some(Expect::Grant),
             Stage::Asks(session) => Some(Expect::Ask {
                 height,
@@ -216,7 +217,7 @@ impl<'a> Judge<'a> {
 
     /// A hello is given where it is one for the file and the statement.
     fn take_hello(&self, frame: Frame) -> Option<Stage>
-        requires expected { Allows expect.Hello (frame_value frame) }
+        requires expected { Allows (hello_place self.now.statement.kind) (frame_value frame) }
         ensures takes { IfSome result (StageTakes self.now at.Hello (frame_value frame)) }
         ensures wrongs { IfNone result (Wrongs self.now at.Hello (frame_value frame)) }
     {

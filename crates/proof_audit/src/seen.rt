@@ -165,13 +165,14 @@ impl<'a> SeenWires<'a> {
         true
     }
 
-    /// The private inputs as bits.
+    /// The private inputs as bits, of a program in which each given value is that of a product.
     ///
     /// # Errors
     ///
     /// Only where memory runs out.
     pub fn inputs(&self, alloc: Global) -> Result<Vec<bool>, AllocError>
-        requires { length self.now.pairs.given ≡ self.now.program.givens }
+        requires given { length self.now.pairs.given ≡ self.now.program.givens }
+        requires checked { self.now.program.givens ≤ length self.now.program.products }
         ensures { IfOk result (λ bits. bits.items ≡ map (λ x. nat_eq x 1)
             (take self.now.program.inputs (values_of self.now.pairs.given))) }
     {

@@ -87,6 +87,7 @@ list_row = every_row (λ place row. is_list (longest place) ≡ true → row.pay
   where
     by_place : (place : Expect) → is_list (longest place) ≡ true → (row_of place 0).payload ≡ payload.Elements (elements_in (longest place))
     by_place expect.Hello is = absurd (false≢true is)
+    by_place expect.ShortHello is = absurd (false≢true is)
     by_place expect.Grant is = absurd (false≢true is)
     by_place (expect.Ask height trees left) is = absurd (false≢true is)
     by_place (expect.Reply height trees left) is = absurd (false≢true is)
@@ -118,6 +119,7 @@ sound_payload = every_row (λ place row. AreSound row.payload) (any_sound, any_s
   where
     by_place : (place : Expect) → AreSound (row_of place 0).payload
     by_place expect.Hello = (any_sound, any_sound)
+    by_place expect.ShortHello = (any_sound, any_sound)
     by_place expect.Grant = (any_sound, any_sound)
     by_place (expect.Ask height trees left) = ((omega arith, omega arith), tt)
     by_place (expect.Reply height trees left) = (any_sound, tt)

@@ -47,6 +47,7 @@ by_code frame_of P code one other a b begun =
 
 pub none_begins_another : NoneBeginsAnother
 none_begins_another expect.Hello one other a b = by_code model.hello IsHello hello_code one other a b
+none_begins_another expect.ShortHello one other a b = by_code model.hello IsHello hello_code one other (a.0, a.1, a.2) (b.0, b.1, b.2)
 none_begins_another expect.Grant one other (inl a) (inl b) = by_code model.grant FitsGrant grant_code one other a b
 none_begins_another expect.Grant one other (inl a) (inr b) = λ begun.
     let kinds : 2 ≡ 10 = ap (λ l. get_or l 0 0) (facing one other (model.grant a.0) (model.refuse b.0) a.1 b.1 begun) in

@@ -227,6 +227,17 @@ hello_said byte payload = by_low (nat_eq byte 129) refl
     by_low true e = rw e (λ fits. let said = long_hellos.frame payload fits in record { allowed = (hello_in payload, refl, said.1.2.0); spelled = said.2 })
     by_low false e = rw e (λ fits. let said = short_hellos.frame payload fits in record { allowed = (hello_in payload, refl, said.1.2.0); spelled = said.2 })
 
+-- a greeting that ends without a digest has none
+no_public : (public : Option (List ℕ)) → IsDigest 0 public → public ≡ None
+no_public None is = refl
+no_public (Some digest) is = absurd (omega (arith, is.0.0, is.1))
+
+pub short_hello_said : (byte : ℕ) (payload : List ℕ) → FitsFields (payload_fields (row_of expect.ShortHello byte).payload) payload
+    → Says expect.ShortHello (row_of expect.ShortHello byte) payload (model.hello (hello_in payload))
+short_hello_said byte payload fits =
+    let said = short_hellos.frame payload fits in
+    record { allowed = (hello_in payload, refl, said.1.2.0, no_public (hello_in payload).public said.1.2.1); spelled = said.2 }
+
 pub grant_said : (byte : ℕ) (payload : List ℕ) → FitsFields (payload_fields (row_of expect.Grant byte).payload) payload
     → Says expect.Grant (row_of expect.Grant byte) payload (grant_or_refusal_in byte payload)
 grant_said byte payload = by_first (nat_eq byte 10) refl
@@ -249,12 +260,14 @@ verdict_said payload fits =
 -- the frames at a place, but for long greetings and refusals
 abbrev Plain : Expect → Frame → Type 0
 Plain expect.Hello frame = Frames model.hello (λ said. IsHello said × IsDigest 0 said.public) frame
+Plain expect.ShortHello frame = Frames model.hello (λ said. IsHello said × IsDigest 0 said.public) frame
 Plain expect.Grant frame = Frames model.grant FitsGrant frame
 Plain expect.Verdict frame = Frames verdict_of (λ said. FitsVerdict said.0 said.1) frame
 Plain place frame = Allows place frame
 
 plain : (place : Expect) → Means (row_of place 0) (Plain place)
 plain expect.Hello = short_hellos
+plain expect.ShortHello = short_hellos
 plain expect.Grant = grants
 plain (expect.Ask height trees left) = means (row_of (expect.Ask height trees left) 0) model.asks (asks_spell height trees) (λ said. refl)
 plain (expect.Reply height trees left) = means (row_of (expect.Reply height trees left) 0) model.replies (replies_spell height trees) (λ said. refl)
@@ -283,6 +296,7 @@ allowed_word expect.Hello frame is = by_public is.0.public refl
     by_public (Some digest) form =
         let are : AreBytes 32 digest = subst (λ (p : Option (List ℕ)). IfSome p (AreBytes 32)) form is.2.public in
         of_row expect.Hello 129 frame long_hellos (is.0, is.1, (is.2, subst (IsDigest 32) (sym form) (are, are.0)))
+allowed_word expect.ShortHello frame is = of_row expect.ShortHello 0 frame short_hellos (is.0, is.1, (is.2, subst (IsDigest 0) (sym is.3) (tt, refl)))
 allowed_word expect.Grant frame (inl is) = of_row expect.Grant 0 frame grants is
 allowed_word expect.Grant frame (inr is) = of_row expect.Grant 10 frame refusals is
 allowed_word expect.Verdict frame is = of_row expect.Verdict 0 frame verdicts ((is.0, is.1), is.2, is.3)
@@ -304,6 +318,7 @@ word_whole place word is =
     payload_said : (place : Expect) (byte : ℕ) (bytes : List ℕ) → FitsFields (payload_fields (row_of place byte).payload) bytes
         → (frame : Frame) × Says place (row_of place byte) bytes frame
     payload_said expect.Hello byte bytes fits = (model.hello (hello_in bytes), hello_said byte bytes fits)
+    payload_said expect.ShortHello byte bytes fits = (model.hello (hello_in bytes), short_hello_said byte bytes fits)
     payload_said expect.Grant byte bytes fits = (grant_or_refusal_in byte bytes, grant_said byte bytes fits)
     payload_said expect.Verdict byte bytes fits = (verdict_in bytes, verdict_said bytes fits)
     payload_said place byte bytes fits = let said = (plain place).frame bytes fits in (said.0, record { allowed = said.1; spelled = said.2 })

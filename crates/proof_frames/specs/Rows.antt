@@ -47,6 +47,7 @@ levels height size most = field.Bytes height size 0 most
 abbrev pub row_of : Expect → ℕ → Row
 row_of expect.Hello low =
     if nat_eq low 129 then record { kind = kind.Hello; payload = one_field (any 129) } else record { kind = kind.Hello; payload = one_field (any 97) }
+row_of expect.ShortHello first = record { kind = kind.Hello; payload = one_field (any 97) }
 row_of expect.Grant first =
     if nat_eq first 10
     then record { kind = kind.Refuse; payload = one_field (between 1 4) }

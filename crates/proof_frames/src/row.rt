@@ -264,6 +264,7 @@ impl Row {
         let (kind, payload) = match place {
             Expect::Hello if byte == 129 => (FrameKind::Hello, Payload::one_field(Field::any(129))),
             Expect::Hello => (FrameKind::Hello, Payload::one_field(Field::any(97))),
+            Expect::ShortHello => (FrameKind::Hello, Payload::one_field(Field::any(97))),
             Expect::Grant if byte == 10 => {
                 (FrameKind::Refuse, Payload::one_field(Field::between(1, 4)))
             }

@@ -99,6 +99,7 @@ pub(crate) fn whole_frame(alloc: Global, place: Expect, held: &mut Held, rooms: 
 {
     match place {
         Expect::Hello => Frame::Hello(hello_of(held.payload())),
+        Expect::ShortHello => Frame::Hello(hello_of(held.payload())),
         Expect::Grant => grant_or_refusal_of(held.start[0], held.payload()),
         Expect::Ask { height, .. } => {
             Frame::ExtendAsk(trees_of(alloc, held.payload(), height, &mut rooms.asks))

@@ -7,6 +7,7 @@ use Rattle.zk_model.specs.Files.{span_pairs}
 use Rattle.zk_model.specs.Check.{WirePairs, all_sums, opened_pairs}
 use Rattle.zk_model.specs.Transcript.{Hello, Grant, TreeAsk, TreeReply, IsHelloFor, IsGrant, version_of, digest_said}
 use Rattle.zk_model.specs.Frames.{Frame, hello, grant, asks, replies, corrections, challenge, sums, openings, verdict, refuse, AreAsks}
+use Rattle.zk_model.specs.Audit.{hello_place}
 use Rattle.zk_model.specs.View.{span_of, verdict_code, verdict_number}
 use Rattle.zk_model.specs.HonestProver.{round_asks}
 use Rattle.zk_model.specs.ServedVerifier.{challenge_coin, round_replies}
@@ -84,7 +85,7 @@ judgement_at has_refused = None
 
 -- the frame that it expects
 abbrev pub verifier_expects : VerifierJob → VerifierStage → Option Expect
-verifier_expects job awaits_hello = Some expect.Hello
+verifier_expects job awaits_hello = Some (hello_place job.task.statement.kind)
 verifier_expects job owes_grant = None
 verifier_expects job (awaits_asks start asked) =
     Some (expect.Ask job.task.file.params.height job.task.file.params.trees (units_of_job job - length asked))
@@ -150,9 +151,9 @@ digests_said said = record { circuit = said.circuit; outputs = said.outputs; pub
 abbrev pub DiffersFirst : List ℕ → Statement → Hello → HelloDiffers → Type 0
 DiffersFirst id statement said (differs.Id want got) = (want ≡ id) × (got ≡ said.id) × (want ≢ got)
 DiffersFirst id statement said (differs.Version want got) =
-    (said.id ≡ id) × (want ≡ version_of said.public) × (got ≡ said.version) × (want ≢ got)
+    (said.id ≡ id) × (want ≡ version_of statement.kind said.public) × (got ≡ said.version) × (want ≢ got)
 DiffersFirst id statement said (differs.Statement want got) =
-    (said.id ≡ id) × (said.version ≡ version_of said.public)
+    (said.id ≡ id) × (said.version ≡ version_of statement.kind said.public)
     × (want ≡ digests_of statement) × (got ≡ digests_said said) × (want ≢ got)
 
 -- why a verifier refuses a frame: a hello that differs

@@ -10,14 +10,16 @@ use Rattle.zk_model.specs.Check.{AllBelow}
 use Rattle.zk_model.specs.Transcript.{Grant, Hello, IsHelloFor, units_for}
 use Rattle.zk_model.specs.ServedVerifier.{VerifierTask}
 use Rattle.zk_model.specs.declared.Params.{Params}
+use Rattle.zk_model.specs.declared.StatementKind.{StatementKind}
 use Rattle.wire_auth.specs.Values.{given_made}
 use Rattle.session_core.specs.declared.verifier_job.TooLarge.{TooLarge}
 use Rattle.zk_model.specs.declared.limits.TheConstants.{MAX_SECTION_LENGTH, MAX_STATEMENTS, MAX_UNITS}
 
--- a statement of these parts: a program, the values of its public wires and the claimed ones, and the digests of the circuit, of the claims
+-- a statement of these parts: its kind, a program, the values of its public wires and the claimed ones, and the digests of the circuit, of the claims
 -- and of the public values
-abbrev pub statement_of : Program → List ℕ → List ℕ → List ℕ → List ℕ → List ℕ → Statement
-statement_of program public claims circuit outputs public_digest = record {
+abbrev pub statement_of : StatementKind → Program → List ℕ → List ℕ → List ℕ → List ℕ → List ℕ → Statement
+statement_of kind program public claims circuit outputs public_digest = record {
+  kind = kind;
   program = program;
   public = public;
   claims = claims;
@@ -63,9 +65,10 @@ abbrev pub noted_job : VerifierJobs → Option ℕ → VerifierJob
 noted_job jobs None = jobs.first
 noted_job jobs (Some n) = job_at jobs n
 
--- they are over the file of the first, and few
+-- they are over the file of the first, about statements of its kind, and few
 pub record AreVerifierJobs (jobs : VerifierJobs) : Type 0 where
   pub one_file : All (λ job. job.task.file ≡ jobs.first.task.file) jobs.others
+  pub one_kind : All (λ job. job.task.statement.kind ≡ jobs.first.task.statement.kind) jobs.others
   pub few : length (all_jobs jobs) ≤ MAX_STATEMENTS
 
 -- a hello for the file and the statement of a job
@@ -112,6 +115,11 @@ prover_from statement inputs file =
 abbrev pub prover_of : Statement → List Bool → ProverFile → ProverJob
 prover_of statement bits file =
     record { statement = statement; file = file; given = bits_of_products statement.program.products bits }
+
+-- bits of all wires of a program, whose products are these given values
+pub record AreWitnessBits (given : List ℕ) (program : Program) (bits : List Bool) : Type 0 where
+  pub whole : length bits ≡ program.wires
+  pub made : given ≡ bits_of_products program.products bits
 
 -- The first is the second for each claim about a circuit, where the private inputs are bits and the others the bits that the circuit
 -- has on all wires then.

@@ -1,6 +1,6 @@
 // What a hello says, and whether it is for a file and a statement.
 ghost use Rattle.std.specs.Prelude.{◌≡◌, true, false, IfSome, IfNone};
-ghost use Rattle.zk_model.specs.Transcript.{IsHelloFor, digest_said};
+ghost use Rattle.zk_model.specs.Transcript.{HasForm, IsHelloFor, digest_said};
 ghost use Rattle.session_core.specs.Jobs.{IsHelloOf};
 ghost use Rattle.session_core.specs.Cores.{digests_said, DiffersFirst};
 
@@ -31,8 +31,10 @@ fn digests_said(hello: &Hello) -> Digests
     }
 }
 
-/// What differs first in a hello for the files of this id and a statement, and nothing exactly where a verifier takes it.
+/// What differs first in a hello, of a form that is allowed, for the files of this id and a statement, and nothing exactly where a
+/// verifier takes it.
 pub fn difference(id: [u8; 32], statement: &Statement<'_>, hello: &Hello) -> Option<HelloDiffers>
+    requires form { HasForm statement.now.kind hello.now.public }
     ensures differs { IfSome result (DiffersFirst id statement.now hello.now) }
     ensures fits { IfNone result (IsHelloFor id statement.now hello.now) }
 {
@@ -42,7 +44,7 @@ pub fn difference(id: [u8; 32], statement: &Statement<'_>, hello: &Hello) -> Opt
             got: hello.id,
         });
     }
-    let version = version_of(hello.public);
+    let version = version_of(statement.kind(), hello.public);
     if hello.version != version {
         return Some(HelloDiffers::Version {
             want: version,
@@ -59,6 +61,7 @@ pub fn difference(id: [u8; 32], statement: &Statement<'_>, hello: &Hello) -> Opt
 
 /// Whether a hello is for the file and the statement of a job.
 pub(crate) fn is_hello_of(job: &VerifierJob<'_>, hello: &Hello) -> bool
+    requires form { HasForm job.now.task.statement.kind hello.now.public }
     ensures yes { result ≡ true → IsHelloOf job.now hello.now }
     ensures no { result ≡ false → ¬ IsHelloOf job.now hello.now }
 {

@@ -1,7 +1,7 @@
 //! A session: both ends, turn by turn (Weng, Yang, Katz and Wang, Wolverine, IEEE S&P 2021; Yang, Sarkar, Weng and Wang,
 //! QuickSilver, ACM CCS 2021).
 //!
-//! `statement` has what a session is about, `circuit_claim` the claim that some inputs make a circuit give outputs, `hellos` whether a
+//! `statement` has what a session is about, `circuit_claim` the claim that some inputs make a circuit, Boolean or arithmetic, give outputs, `hellos` whether a
 //! hello is for it. `prover_job` and `verifier_job` have what either end is to do, and its turns as calls, `verifier_jobs` what a
 //! verifier is to do of several statements; `prover_core` and `verifier_core` take frames one by one and take these turns. `extending`
 //! has the asks, replies, pairs and keys of all units of a grant, `round_frames` their frames, `workers` what several threads can share,
@@ -38,7 +38,7 @@ pub use left_sides::LeftSides;
 pub use prover_core::ProverCore;
 pub use prover_job::{Opened, ProverJob, units_of};
 pub use round_frames::{ask_frames, reply_frames};
-pub use statement::{Statement, bits_digest, elements_of};
+pub use statement::{Statement, bits_digest, elements_digest, elements_of};
 pub use verifier_core::VerifierCore;
 pub use verifier_job::{TooLarge, VerifierJob, units_for};
 pub use verifier_jobs::VerifierJobs;

@@ -1,6 +1,5 @@
 // What a prover is to do, and how it answers a grant and a challenge.
-ghost use Rattle.std.specs.Prelude.{◌≡◌, true, false, ◌+◌, ◌*◌, ◌≤◌, ◌^◌, ℕ, List, length, take, drop, IfOk};
-ghost use Rattle.zk_model.specs.Boolean.{bits_of_products};
+ghost use Rattle.std.specs.Prelude.{◌≡◌, true, false, ◌+◌, ◌*◌, ◌≤◌, ◌^◌, ℕ, List, length, take, drop, IfOk, IfSome};
 ghost use Rattle.zk_model.specs.Mac.{macs_of};
 ghost use Rattle.zk_model.specs.Program.{AreMade, section_count};
 ghost use Rattle.zk_model.specs.Files.{correlations_per_unit, span_pairs};
@@ -9,9 +8,10 @@ ghost use Rattle.zk_model.specs.Transcript.{IsGrant, wanted_hello};
 ghost use Rattle.zk_model.specs.View.{span_of};
 ghost use Rattle.zk_model.specs.declared.Kind.TheVariants.{Direct};
 ghost use Rattle.session_core.specs.Ends.{IsFixed, masks_in};
-ghost use Rattle.session_core.specs.Jobs.{IsProverJob, Suits, prover_from};
+ghost use Rattle.wire_auth.specs.Values.{given_made};
+ghost use Rattle.session_core.specs.Jobs.{AreWitnessBits, IsProverJob, Suits, prover_from};
 ghost use Rattle.session_core.specs.Fixing.{AreEnough, IsFixedUnder, pairs_fixed};
-ghost use Rattle.zk_model.specs.declared.limits.TheConstants.{MAX_DEALT_UNITS, MAX_WIRES};
+ghost use Rattle.zk_model.specs.declared.limits.TheConstants.{MAX_DEALT_UNITS, MAX_GATES, MAX_WIRES};
 
 use crate::statement::Statement;
 use crate::verifier_job::units_for;
@@ -24,25 +24,30 @@ use std::marker::Model;
 use wire_auth::{ProverWalk, bit_corrections, walk_corrections};
 use zk_model::{MAX_SECTION_LENGTH, MAX_UNITS, Span};
 
-/// What a prover is to do: its statement and its file, and the values of its private inputs.
+/// What a prover is to do: its statement and its file, and the values of its private inputs; and bits of all wires whose products are
+/// its given values, where they are known.
 #[derive(Debug, Drop)]
 pub struct ProverJob<'a> {
     statement: &'a Statement<'a>,
     file: &'a ProverFile,
     inputs: &'a [Fe],
+    bits: Option<&'a [bool]>,
 }
 
 impl<'a> Model for ProverJob<'a> {
-    ghost use Rattle.std.specs.Prelude.{◌≡◌, length};
+    ghost use Rattle.std.specs.Prelude.{◌≡◌, length, IfSome};
+    ghost use Rattle.wire_auth.specs.Values.{given_made};
     ghost use Rattle.session_core.specs.Jobs as jobs;
-    ghost use Rattle.session_core.specs.Jobs.{IsProverJob, prover_from};
+    ghost use Rattle.session_core.specs.Jobs.{AreWitnessBits, IsProverJob, prover_from};
 
     ghost Value = { jobs.ProverJob };
 
     ghost view = { λ p. prover_from p.statement.now p.inputs.now p.file.now };
 
     ghost invariant = { λ p. IsProverJob (prover_from p.statement.now p.inputs.now p.file.now)
-        × (length p.inputs.now ≡ p.statement.now.program.inputs) };
+        × (length p.inputs.now ≡ p.statement.now.program.inputs)
+        × IfSome p.bits (λ bits. AreWitnessBits (given_made p.statement.now.program p.statement.now.public p.inputs.now)
+        p.statement.now.program bits.now) };
 }
 
 /// What a prover answers a challenge by.
@@ -78,7 +83,7 @@ fn opened_macs(alloc: Global, walk: &ProverWalk<'_>) -> Result<Vec<Fe>, AllocErr
     ensures macs { IfOk result (λ macs. macs.items
         ≡ macs_of (opened_pairs walk.now.side.program walk.now.side.pairs)) }
     ensures one_each { IfOk result (λ macs. length macs.items ≡ length walk.now.side.program.opened) }
-    ensures bounded { length walk.now.side.program.opened ≤ MAX_WIRES }
+    ensures bounded { length walk.now.side.program.opened ≤ MAX_WIRES + MAX_GATES }
 {
     let opened = walk.program().opened();
     let mut macs = Vec::with_capacity(alloc, opened.len())?;
@@ -101,6 +106,32 @@ impl<'a> ProverJob<'a> {
             statement,
             file,
             inputs,
+            bits: None,
+        }
+    }
+
+    /// A job with the values of the private inputs, and, where they are known, bits of all wires whose products are its given values: it
+    /// makes its corrections of them, without a walk along the program.
+    pub fn with_bits(
+        statement: &'a Statement<'a>,
+        file: &'a ProverFile,
+        inputs: &'a [Fe],
+        bits: Option<&'a [bool]>,
+    ) -> Self
+        requires inputs { length inputs.now ≡ statement.now.program.inputs }
+        requires bits { IfSome bits (λ bits.
+            AreWitnessBits (given_made statement.now.program statement.now.public inputs.now)
+            statement.now.program bits.now) }
+        ensures job { result ≡ prover_from statement.now inputs.now file.now }
+        ensures made { (wires : List ℕ)
+            × AreMade statement.now.program statement.now.public inputs.now wires result.given }
+    {
+        let _givens = statement.program().givens();
+        ProverJob {
+            statement,
+            file,
+            inputs,
+            bits,
         }
     }
 
@@ -152,12 +183,32 @@ impl<'a> ProverJob<'a> {
         self.file.pairs(units_of(grant))
     }
 
-    /// The pairs of a session's correlations are answered by the corrections that make them those of the given values.
+    /// The pairs of a session's correlations are answered by the corrections that make them those of the given values: of the bits of all
+    /// wires, where these are known, or else of a walk along the program.
     ///
     /// # Errors
     ///
     /// Only where memory runs out.
     pub fn commit(&self, alloc: Global, grant: Grant, pairs: &[Pair]) -> Result<Vec<Fe>, AllocError>
+        requires at_least_one { 1 ≤ grant.section_length }
+        requires enough { AreEnough self.now grant.section_length pairs.now }
+        ensures fixed { IfOk result (λ d. IsFixed self.now.statement self.now.given
+            pairs.now d.items (pairs_fixed self.now pairs.now)) }
+        ensures one_each { IfOk result (λ d. length d.items ≡ self.now.statement.program.givens) }
+    {
+        match self.bits {
+            None => self.commit_walked(alloc, grant, pairs),
+            Some(bits) => self.commit_bits(alloc, grant, pairs, bits),
+        }
+    }
+
+    /// Does so by a walk.
+    fn commit_walked(
+        &self,
+        alloc: Global,
+        grant: Grant,
+        pairs: &[Pair],
+    ) -> Result<Vec<Fe>, AllocError>
         requires at_least_one { 1 ≤ grant.section_length }
         requires enough { AreEnough self.now grant.section_length pairs.now }
         ensures fixed { IfOk result (λ d. IsFixed self.now.statement self.now.given
@@ -172,12 +223,8 @@ impl<'a> ProverJob<'a> {
         Ok(corrections)
     }
 
-    /// Does the same where these bits, which all wires have, make the given values: there is no walk then.
-    ///
-    /// # Errors
-    ///
-    /// Only where memory runs out.
-    pub fn commit_bits(
+    /// Does so of bits of all wires.
+    fn commit_bits(
         &self,
         alloc: Global,
         grant: Grant,
@@ -186,8 +233,7 @@ impl<'a> ProverJob<'a> {
     ) -> Result<Vec<Fe>, AllocError>
         requires at_least_one { 1 ≤ grant.section_length }
         requires enough { AreEnough self.now grant.section_length pairs.now }
-        requires whole { length bits.now ≡ self.now.statement.program.wires }
-        requires made { self.now.given ≡ bits_of_products self.now.statement.program.products bits.now }
+        requires bits { AreWitnessBits self.now.given self.now.statement.program bits.now }
         ensures fixed { IfOk result (λ d. IsFixed self.now.statement self.now.given
             pairs.now d.items (pairs_fixed self.now pairs.now)) }
         ensures one_each { IfOk result (λ d. length d.items ≡ self.now.statement.program.givens) }
@@ -224,7 +270,7 @@ impl<'a> ProverJob<'a> {
             ≡ section_count self.now.statement.program grant.section_length) }
         ensures opening_count { IfOk result (λ o. length o.openings.items
             ≡ length self.now.statement.program.opened) }
-        ensures bounded { IfOk result (λ o. length o.openings.items ≤ MAX_WIRES) }
+        ensures bounded { IfOk result (λ o. length o.openings.items ≤ MAX_WIRES + MAX_GATES) }
     {
         let section = u64::from(grant.section);
         let program = self.statement.program();

@@ -1,10 +1,14 @@
 // What a session is to prove.
-ghost use Rattle.std.specs.Prelude.{◌≡◌, length, map, IfOk};
+ghost use Rattle.std.specs.Prelude.{◌≡◌, ◌++◌, length, map, flat_map, All, IfOk, OnOk};
+ghost use Rattle.zk_model.specs.Bytes.{element_bytes};
+ghost use Rattle.zk_model.specs.Field.{IsElement};
 ghost use Rattle.zk_model.specs.Bits.{digits_of, from_bit};
 ghost use Rattle.session_core.specs.Cores.{digests_of};
 ghost use Rattle.session_core.specs.Jobs.{statement_of};
 ghost use Rattle.zk_model.specs.Slots.{IsPlanOf};
 ghost use Rattle.zk_model.specs.Statement.{IsStatement};
+ghost use Rattle.zk_model.specs.Audit.{hello_place};
+ghost use Rattle.proof_frames.specs.Readings.{IsShortPlace};
 ghost use Rattle.zk_model.specs.Transcript.{wanted_hello, digest_sent, version_of};
 ghost use Rattle.sha2.specs.Sha256.{sha256};
 
@@ -15,11 +19,13 @@ use proof_frames::Hello;
 use sha2::{Digest, Sha256};
 use std::alloc::{AllocError, Global};
 use std::marker::Model;
+use zk_model::{Expect, StatementKind};
 
-/// What a session is to prove: a program, the values of its public wires and the claimed values of the wires that it opens;
+/// What a session is to prove: its kind; a program, the values of its public wires and the claimed values of the wires that it opens;
 /// and the digests by which its hello names them. With it goes a plan of the program, along which both ends walk.
 #[derive(Debug, Drop)]
 pub struct Statement<'a> {
+    kind: StatementKind,
     program: &'a FieldProgram,
     plan: &'a SlotPlan,
     public: &'a [Fe],
@@ -38,16 +44,18 @@ impl<'a> Model for Statement<'a> {
     ghost Value = { model.Statement };
 
     ghost view = { λ s.
-        statement_of s.program.now s.public.now s.claims.now s.circuit s.outputs s.public_digest };
+        statement_of s.kind s.program.now s.public.now s.claims.now s.circuit s.outputs s.public_digest };
 
     ghost invariant = { λ s. IsPlanOf s.program.now s.plan.now × IsStatement
-        (statement_of s.program.now s.public.now s.claims.now s.circuit s.outputs s.public_digest) };
+        (statement_of s.kind s.program.now s.public.now s.claims.now s.circuit s.outputs s.public_digest) };
 }
 
 impl<'a> Statement<'a> {
-    /// A statement of these parts: a program and a plan of it, as many public values and claims as the program has public and
-    /// opened wires, and the digests of the circuit, of the claims and of the public values: of the empty text, where there are none.
+    /// A statement of these parts: a kind, a program and a plan of it, as many public values and claims as the program has public and
+    /// opened wires, and the digests of the circuit, of the claims and of the public values: of the empty text, where there are none, as in
+    /// a statement about an arithmetic circuit.
     pub fn new(
+        kind: StatementKind,
         program: &'a FieldProgram,
         plan: &'a SlotPlan,
         public: &'a [Fe],
@@ -58,11 +66,12 @@ impl<'a> Statement<'a> {
     ) -> Self
         requires plan { IsPlanOf program.now plan.now }
         requires stated { IsStatement
-            (statement_of program.now public.now claims.now circuit outputs public_digest) }
+            (statement_of kind program.now public.now claims.now circuit outputs public_digest) }
         ensures { result
-            ≡ statement_of program.now public.now claims.now circuit outputs public_digest }
+            ≡ statement_of kind program.now public.now claims.now circuit outputs public_digest }
     {
         Statement {
+            kind,
             program,
             plan,
             public,
@@ -70,6 +79,25 @@ impl<'a> Statement<'a> {
             circuit,
             outputs,
             public_digest,
+        }
+    }
+
+    /// Its kind.
+    pub fn kind(&self) -> StatementKind
+        ensures kind { result ≡ self.now.kind }
+        ensures stated { IsStatement self.now }
+    {
+        self.kind
+    }
+
+    /// The place of a hello about it: about a Boolean circuit it may be of either form.
+    pub fn hello_place(&self) -> Expect
+        ensures place { result ≡ hello_place self.now.kind }
+        ensures short { IsShortPlace result }
+    {
+        match self.kind {
+            StatementKind::Boolean => Expect::Hello,
+            StatementKind::Arithmetic => Expect::ShortHello,
         }
     }
 
@@ -134,19 +162,20 @@ impl<'a> Statement<'a> {
             id,
             circuit: self.circuit,
             outputs: self.outputs,
-            version: version_of(public),
+            version: version_of(self.kind, public),
             public,
         }
     }
 }
 
-/// The version of a hello in this form: 1 without a digest of public bits, 2 with one.
-pub(crate) fn version_of(public: Option<[u8; 32]>) -> u8
-    ensures { result ≡ version_of public }
+/// The version of a hello about a statement of this kind: 1 without a digest of public bits, 2 with one; 4 about an arithmetic circuit.
+pub(crate) fn version_of(kind: StatementKind, public: Option<[u8; 32]>) -> u8
+    ensures { result ≡ version_of kind public }
 {
-    match public {
-        None => 1,
-        Some(_) => 2,
+    match (kind, public) {
+        (StatementKind::Boolean, None) => 1,
+        (StatementKind::Boolean, Some(_)) => 2,
+        (StatementKind::Arithmetic, _) => 4,
     }
 }
 
@@ -166,4 +195,25 @@ pub fn bits_digest(alloc: Global, bits: &[bool]) -> Result<[u8; 32], AllocError>
         .map(|bit| if *bit { b'1' } else { b'0' })
         .collect(alloc)?;
     Ok(Sha256::digest(&digits))
+}
+
+/// Appends elements, 8 bytes each.
+fn push_elements(bytes: &mut Vec<u8>, elements: &[Fe]) -> Result<(), AllocError>
+    ensures bytes { OnOk result (bytes.new.items ≡ bytes.old.items ++ flat_map element_bytes elements.now) }
+    ensures range { OnOk result (All IsElement elements.now) }
+{
+    for element in elements {
+        bytes.extend_from_slice(&element.to_le())?;
+    }
+    Ok(())
+}
+
+/// The digest of elements, 8 bytes each.
+pub fn elements_digest(alloc: Global, elements: &[Fe]) -> Result<[u8; 32], AllocError>
+    ensures digest { IfOk result (λ digest. digest ≡ sha256 (flat_map element_bytes elements.now)) }
+    ensures range { OnOk result (All IsElement elements.now) }
+{
+    let mut bytes = Vec::new(alloc);
+    push_elements(&mut bytes, elements)?;
+    Ok(Sha256::digest(&bytes))
 }

@@ -8,6 +8,7 @@ ghost use Rattle.wire_auth.specs.Held.{items_in};
 ghost use Rattle.proof_frames.specs.Readings.{IsShortPlace};
 ghost use Rattle.session_core.specs.Jobs.{units_of_job, granted_from};
 ghost use Rattle.session_core.specs.Judgements.{verdict_in};
+ghost use Rattle.zk_model.specs.Audit.{hello_place};
 ghost use Rattle.zk_model.specs.declared.Expect.TheVariants as expect;
 ghost use Rattle.zk_model.specs.declared.Kind.TheVariants.{Extended};
 ghost use Rattle.zk_model.specs.Program.{section_count};
@@ -133,7 +134,7 @@ impl<'a> VerifierCore<'a> {
         let _products = program.products();
         let Params { height, trees, .. } = self.job.file().params();
         match &self.stage {
-            Stage::Hello => Some(Expect::Hello),
+            Stage::Hello => Some(self.job.statement().hello_place()),
             Stage::Asks { asked, .. } => Some(Expect::Ask {
                 height: usize::from(height),
                 trees: trees as usize,
@@ -270,7 +271,7 @@ impl<'a> VerifierCore<'a> {
 
     /// Meets a hello: one for its file and statement leaves its grant due.
     fn meet(&mut self, alloc: Global, frame: Frame) -> Result<Vec<Frame>, VerifierFault>
-        requires expected { Allows expect.Hello (frame_value frame) }
+        requires expected { Allows (hello_place self.old.job.task.statement.kind) (frame_value frame) }
         ensures answered { IfOk result (λ answer. VerifierAnswers self.old.job awaits_hello
             (frame_value frame) (map frame_value answer.items) self.new.stage) }
         ensures refused { IfErr result (VerifierRefuses self.old.job awaits_hello (frame_value frame)) }

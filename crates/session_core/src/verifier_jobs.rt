@@ -1,14 +1,18 @@
 // What a verifier is to do of which several statements may be proved.
 ghost use Rattle.std.specs.Prelude.{◌≡◌, ◌≤◌, ◌<◌, length, IfSome, IfNone};
 ghost use Rattle.session_core.specs.Jobs.{AreVerifierJobs, IsForNone, IsFirstFor, all_jobs, job_at, noted_job};
+ghost use Rattle.zk_model.specs.Audit.{hello_place};
+ghost use Rattle.proof_frames.specs.Readings.{IsShortPlace};
+ghost use Rattle.zk_model.specs.Transcript.{HasForm};
 ghost use Rattle.zk_model.specs.declared.limits.TheConstants.{MAX_STATEMENTS};
 
 use crate::hellos::is_hello_of;
 use crate::verifier_job::VerifierJob;
 use proof_frames::Hello;
 use std::marker::Model;
+use zk_model::Expect;
 
-/// What a verifier is to do: a job for each statement that may be proved to it, over its one file. There are 1 to 256.
+/// What a verifier is to do: a job for each statement that may be proved to it, of one kind and over its one file. There are 1 to 256.
 #[derive(Debug, Drop)]
 pub struct VerifierJobs<'a> {
     first: &'a VerifierJob<'a>,
@@ -59,6 +63,7 @@ impl<'a> VerifierJobs<'a> {
         requires within { IfSome statement (λ n. n < length (all_jobs self.now)) }
         ensures noted { result.now ≡ noted_job self.now statement }
         ensures file { result.now.task.file ≡ self.now.first.task.file }
+        ensures kind { result.now.task.statement.kind ≡ self.now.first.task.statement.kind }
     {
         match statement {
             None => self.first,
@@ -66,8 +71,17 @@ impl<'a> VerifierJobs<'a> {
         }
     }
 
-    /// The number of the first job whose file and statement a hello is for, if it is for one.
+    /// The place of a hello: the statements are of one kind.
+    pub fn hello_place(&self) -> Expect
+        ensures place { result ≡ hello_place self.now.first.task.statement.kind }
+        ensures short { IsShortPlace result }
+    {
+        self.first.statement().hello_place()
+    }
+
+    /// The number of the first job whose file and statement a hello, of a form that is allowed, is for, if it is for one.
     pub fn first_for(&self, hello: &Hello) -> Option<u32>
+        requires form { HasForm self.now.first.task.statement.kind hello.now.public }
         ensures first { IfSome result (λ n. IsFirstFor self.now n hello.now) }
         ensures none { IfNone result (IsForNone self.now hello.now) }
     {

@@ -23,7 +23,7 @@ use Rattle.session_core.specs.Cores.{ProverStage, awaits_grant, awaits_replies, 
 use Rattle.zk_model.specs.Statement.{IsStatement}
 use Rattle.session_prover.specs.declared.note.ProverOutcome.{ProverOutcome}
 use Rattle.session_prover.specs.declared.note.ProverOutcome.TheVariants.{BadGrant, PeerRefused, Rejected, Accepted}
-use Rattle.zk_model.specs.declared.limits.TheConstants.{MAX_WIRES}
+use Rattle.zk_model.specs.declared.limits.TheConstants.{MAX_GATES, MAX_WIRES}
 use Rattle.zk_model.specs.declared.Expect.{Expect}
 use Rattle.session_core.specs.declared.fault.ProverFault.{ProverFault}
 use Rattle.session_driver.specs.declared.drive.Outcome.{Outcome}
@@ -188,7 +188,7 @@ pub record IsSoundJob (job : ProverJob) : Type 0 where
   pub stated : IsStatement job.statement
   pub givens : job.statement.program.givens ≤ MAX_WIRES
   pub products : length job.statement.program.products ≤ MAX_WIRES
-  pub opened : length job.statement.program.opened ≤ MAX_WIRES
+  pub opened : length job.statement.program.opened ≤ MAX_WIRES + MAX_GATES
 
 -- a grant is answered
 abbrev pub IsBehindGrant : ProverStage → Type 0

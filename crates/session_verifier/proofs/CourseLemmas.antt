@@ -4,11 +4,15 @@ use Rattle.std.proofs.lemmas.Option.{same_Some}
 use Rattle.zk_model.specs.Field.{IsElement, from_word}
 use Rattle.zk_model.specs.Program.{section_count}
 use Rattle.zk_model.specs.Files.{rounds_of}
-use Rattle.frame_laws.proofs.Hellos.{fitting_is_hello, long_hello, long_fits, long_length}
-use Rattle.zk_model.specs.Transcript.{Grant, Transcript, IsGrant, IsHello, BeginsWith, hello_frame, sums_frame, openings_frame, verdict_frame, refuse_frame, bytes_from, turn_bytes, sent_by, spelling, Round, Setup, IsSetup, corrections_frame, session_turns, Hello, IsRound, IsTranscript, reply_frame, challenge_frame, setup_turns}
+use Rattle.frame_laws.proofs.Hellos.{fitting_is_hello, hello_allowed, hello_longest, longest_hello, longest_fits, longest_length}
+use Rattle.zk_model.specs.Transcript.{Grant, Transcript, IsGrant, IsHello, HasForm, BeginsWith, hello_frame, sums_frame, openings_frame, verdict_frame, refuse_frame, bytes_from, turn_bytes, sent_by, spelling, Round, Setup, IsSetup, corrections_frame, session_turns, Hello, IsRound, IsTranscript, reply_frame, challenge_frame, setup_turns}
+use Rattle.zk_model.specs.Statement.{IsStatement}
+use Rattle.zk_model.specs.Audit.{hello_place}
+use Rattle.zk_model.specs.declared.StatementKind.{StatementKind}
+use Rattle.zk_model.specs.declared.StatementKind.TheVariants.{Boolean, Arithmetic}
 use Rattle.zk_model.specs.Frames.{hello}
 use Rattle.frame_laws.proofs.SentBytes.{none_of_prover, sent_by-verifier, sent_by-append, sent_by-prover}
-use Rattle.frame_link.proofs.LineLemmas.{none_is_some, within_longest, whole_within}
+use Rattle.frame_link.proofs.LineLemmas.{none_is_some, longest, within_longest, whole_within}
 use Rattle.zk_model.specs.View.{ChecksHold, verdict_number, verdict_code}
 use Rattle.zk_model.specs.ServedVerifier.{challenge_coin, IsServed, IsAccepted, ServesWith, RepliesAre, round_replies}
 use Rattle.zk_model.specs.declared.Side.{Side}
@@ -39,7 +43,6 @@ use Rattle.session_laws.specs.Rounds.{RepliesAreInRange}
 use Rattle.session_laws.proofs.Cut.{greeted, greeted_is}
 use Rattle.session_verifier.proofs.StageLemmas.{some_rounds, within_of, hello_in, either_kind}
 use Rattle.frame_link.proofs.FramesLemmas.{some_replies}
-use Rattle.zk_model.specs.declared.Expect.TheVariants as expect
 use Rattle.lease_store.specs.declared.LeaseFault.TheVariants as lease
 use Rattle.session_core.specs.declared.judgement.Judgement.TheVariants as judged
 use Rattle.session_driver.specs.Leaving.{CountsCalls}
@@ -386,43 +389,44 @@ refused_by job answer other first now because = tt
 -- a session that is accepted with an honest prover of whichever statement is so with one of the statement that is noted
 pub completes_noted : (jobs : VerifierJobs) (taken : Option ℕ) (answer : Option (Result Span LeaseFault)) (outcome : VerifierOutcome)
     (first now : LinkSnapshot)
-    → HasTaken jobs taken now.log → CompletesForEach jobs answer outcome first now → VerifierCompletes (noted_job jobs taken) answer outcome first now
-completes_noted jobs None answer outcome first now has completes prover peer = completes prover (record {
+    → IsStatement jobs.first.task.statement → HasTaken jobs taken now.log → CompletesForEach jobs answer outcome first now → VerifierCompletes (noted_job jobs taken) answer outcome first now
+completes_noted jobs None answer outcome first now stated has completes prover peer = completes prover (record {
   number = 0;
-  hello = long_hello jobs.first.task.file.id jobs.first.task.statement;
+  hello = longest_hello jobs.first.task.file.id jobs.first.task.statement;
   first = record {
     within = omega arith;
-    fits = long_fits jobs.first.task.file.id jobs.first.task.statement;
+    fits = longest_fits jobs.first.task.file.id jobs.first.task.statement stated;
     first = λ k below. absurd (omega (arith, below));
   };
   peer = peer;
 })
-completes_noted jobs (Some n) answer outcome first now has completes prover peer =
+completes_noted jobs (Some n) answer outcome first now stated has completes prover peer =
     completes prover (record { number = n; hello = has.0; first = has.1; peer = peer })
 
 -- ---- what the verifier sends
 
 -- a hello is a frame, with nothing past it
-pub hello_within : (said : Hello) → IsHello said → IsWithinFrame expect.Hello (hello_frame said)
-hello_within said is = whole_within expect.Hello (hello_frame said) (hello said) (record { allowed = (said, refl, is); spelled = refl })
+pub hello_within : (kind : StatementKind) (said : Hello) → IsHello said → HasForm kind said.public → IsWithinFrame (hello_place kind) (hello_frame said)
+hello_within kind said is form =
+    whole_within (hello_place kind) (hello_frame said) (hello said) (record { allowed = hello_allowed kind said is form; spelled = refl })
 
 -- a refusal, or nothing, after the hello
-ungranted_alone : (outcome : VerifierOutcome) (rest : List ℕ) (log : List (Side × ℕ)) → IsWithinFrame expect.Hello rest → log ≡ bytes_from Prover rest
-    → IsUngranted outcome log
-ungranted_alone outcome rest log few is =
+ungranted_alone : (kind : StatementKind) (outcome : VerifierOutcome) (rest : List ℕ) (log : List (Side × ℕ)) → IsWithinFrame (hello_place kind) rest
+    → log ≡ bytes_from Prover rest → IsUngranted kind outcome log
+ungranted_alone kind outcome rest log few is =
     record { rest = rest; few = few; answer = []; refused = inl refl; bytes = is ∙ sym (append-nil (bytes_from Prover rest)) }
 
-ungranted_refused : (outcome : VerifierOutcome) (code : ℕ) (said : Hello) (first now : LinkSnapshot) → IsHello said → refusal_of outcome ≡ Some code
-    → RefusesAfter said code first now → IsUngranted outcome now.log
-ungranted_refused outcome code said first now is of refused = elim refused [
+ungranted_refused : (kind : StatementKind) (outcome : VerifierOutcome) (code : ℕ) (said : Hello) (first now : LinkSnapshot) → IsHello said
+    → HasForm kind said.public → refusal_of outcome ≡ Some code → RefusesAfter said code first now → IsUngranted kind outcome now.log
+ungranted_refused kind outcome code said first now is form of refused = elim refused [
   | inl well ↦ record {
     rest = hello_frame said;
-    few = hello_within said is;
+    few = hello_within kind said is form;
     answer = refuse_frame code;
     refused = inr (code, of, refl);
     bytes = well.logged;
   }
-  | inr lost ↦ ungranted_alone outcome (hello_frame said) now.log (hello_within said is) lost.logged
+  | inr lost ↦ ungranted_alone kind outcome (hello_frame said) now.log (hello_within kind said is form) lost.logged
 ]
 
 -- before the grant
@@ -476,12 +480,13 @@ begins_within job span are = omega (arith, are.units, are.within)
 pub sends_rightly : (job : VerifierJob) (ending : Ending) (first now : LinkSnapshot) → RepliesAreInRange → ServedSessionExists → IsKnown job
     → HasEnding job ending first now → SendsRightly job (granted_by (answer_at ending)) (outcome_at ending) now.log
 sends_rightly job (lacks_hello fault) first now ranges law known has =
-    ungranted_alone (verifier_line_outcome fault) has.rest now.log (within_of job awaits_hello now.log has.comes expect.Hello refl) (hello_bytes job now.log has.comes)
+    ungranted_alone job.task.statement.kind (verifier_line_outcome fault) has.rest now.log
+    (within_of job awaits_hello now.log has.comes (hello_place job.task.statement.kind) refl) (hello_bytes job now.log has.comes)
 sends_rightly job (turns_away fault) first now ranges law known has =
-    ungranted_refused (verifier_fault_outcome fault) (hello_code fault) has.said first now has.is (hello_refusal fault) has.refused
+    ungranted_refused job.task.statement.kind (verifier_fault_outcome fault) (hello_code fault) has.said first now has.is has.form (hello_refusal fault) has.refused
 sends_rightly job (lacks_units fault) first now ranges law known has =
-    ungranted_refused (lease_outcome fault) (lease_code fault) has.greeting.hello first now (greeting_is_hello job known has.greeting) (lease_refusal fault)
-    has.refused
+    ungranted_refused job.task.statement.kind (lease_outcome fault) (lease_code fault) has.greeting.hello first now (greeting_is_hello job known has.greeting)
+    has.greeting.fits.form (lease_refusal fault) has.refused
 sends_rightly job (lacks_grant span) first now ranges law known has =
     sends_lacking job span first now ranges law known (begins_within job span has.0) has.1
 sends_rightly job (loses_grant span fault) first now ranges law known has =
@@ -492,21 +497,26 @@ sends_rightly job (judges span found) first now ranges law known has =
 
 -- ---- no cut session is accepted
 
+-- the longest frame of a hello's place is the longest hello
+place_longest : (kind : StatementKind) → longest (hello_place kind) ≡ hello_longest kind
+place_longest Boolean = refl
+place_longest Arithmetic = refl
+
 -- no part of the prover's first turn is accepted, nor of that with the longest hello
-first_is_cut : (job : VerifierJob) (log : List (Side × ℕ)) (rest : List ℕ) → CutIsNotAccepted → IsKnown job → log ≡ bytes_from Prover rest → IsWithinFrame expect.Hello rest
-    → IsAccepted job.task log → ⊥
+first_is_cut : (job : VerifierJob) (log : List (Side × ℕ)) (rest : List ℕ) → CutIsNotAccepted → IsKnown job → log ≡ bytes_from Prover rest
+    → IsWithinFrame (hello_place job.task.statement.kind) rest → IsAccepted job.task log → ⊥
 first_is_cut job log rest law known is few accepted =
-    let most : length rest ≤ 134 = within_longest expect.Hello rest few in
-    let hello = long_hello job.task.file.id job.task.statement in
+    let most : length rest ≤ longest (hello_place job.task.statement.kind) = within_longest (hello_place job.task.statement.kind) rest few in
+    let hello = longest_hello job.task.file.id job.task.statement in
     let greets : IsHello hello = fitting_is_hello job.task.file.id job.task.statement hello known.file.id known.stated
-    (long_fits job.task.file.id job.task.statement) in
+    (longest_fits job.task.file.id job.task.statement known.stated) in
     law job.task (greeted hello accepted.t) log known.file.params
     (greeted_is job.task.file.params job.task.statement.program hello accepted.t greets accepted.in_order.transcript)
     (record {
       whole = 0;
       more = omega arith;
       rest = rest;
-      most = omega (arith, most, long_length job.task.file.id job.task.statement known.file.id known.stated);
+      most = omega (arith, most, place_longest job.task.statement.kind, longest_length job.task.file.id job.task.statement known.file.id known.stated);
       bytes = is;
     })
     accepted
@@ -528,7 +538,7 @@ refusal_is_cut job log rest code is accepted =
     let sent : sent_by Verifier log ≡ refuse_frame code = ap (sent_by Verifier) is ∙ answered_alone rest (refuse_frame code) in
     absurd (omega (arith, ap (λ l. slice_index_or l 0 0) sent, grant_first job log accepted))
 
-ungranted_is_cut : (job : VerifierJob) (outcome : VerifierOutcome) (log : List (Side × ℕ)) → CutIsNotAccepted → IsKnown job → IsUngranted outcome log
+ungranted_is_cut : (job : VerifierJob) (outcome : VerifierOutcome) (log : List (Side × ℕ)) → CutIsNotAccepted → IsKnown job → IsUngranted job.task.statement.kind outcome log
     → IsAccepted job.task log → ⊥
 ungranted_is_cut job outcome log law known is accepted = elim is.refused [
   | inl none ↦ first_is_cut job log is.rest law known
@@ -551,10 +561,11 @@ accepts_exactly job (turns_away fault) first now ranges law cut said known has a
 accepts_exactly job (lacks_units fault) first now ranges law cut said known has accepted =
     absurd (ungranted_is_cut job (lease_outcome fault) now.log cut known (sends_rightly job (lacks_units fault) first now ranges law known has) accepted)
 accepts_exactly job (lacks_grant span) first now ranges law cut said known has accepted = absurd (ungranted_is_cut job NoMemory now.log cut known
-    (ungranted_refused NoMemory 4 has.1.greeting.hello first now (greeting_is_hello job known has.1.greeting) refl has.1.refused) accepted)
+    (ungranted_refused job.task.statement.kind NoMemory 4 has.1.greeting.hello first now (greeting_is_hello job known has.1.greeting) has.1.greeting.fits.form refl
+    has.1.refused) accepted)
 accepts_exactly job (loses_grant span fault) first now ranges law cut said known has accepted =
     absurd (first_is_cut job now.log (hello_frame has.1.greeting.hello) cut known has.1.lost.logged
-    (hello_within has.1.greeting.hello (greeting_is_hello job known has.1.greeting)) accepted)
+    (hello_within job.task.statement.kind has.1.greeting.hello (greeting_is_hello job known has.1.greeting) has.1.greeting.fits.form) accepted)
 accepts_exactly job (stops_behind span fault) first now ranges law cut said known has accepted =
     let some = cut_at_stop job span.start fault first now ranges law known has.1 in
     let is = some.cut in
@@ -679,8 +690,8 @@ served_replies job grant log setup known extended is begins serves =
     (All-nil (λ (r : Round). r.replies ≡ round_replies job.task.file setup.grant r.asks)))
 
 -- a log without a grant begins with no setup's turns
-no_setup : (outcome : VerifierOutcome) (log : List (Side × ℕ)) (setup : Setup) → IsUngranted outcome log → BeginsWith log (turn_bytes (setup_turns setup)) → ⊥
-no_setup outcome log setup is begins =
+no_setup : (kind : StatementKind) (outcome : VerifierOutcome) (log : List (Side × ℕ)) (setup : Setup) → IsUngranted kind outcome log → BeginsWith log (turn_bytes (setup_turns setup)) → ⊥
+no_setup kind outcome log setup is begins =
     let answers : is.answer ≡ answered (setup_turns setup) ++ sent_by Verifier begins.0 =
     sym (ap (sent_by Verifier) is.bytes ∙ answered_alone is.rest is.answer) ∙ ap (sent_by Verifier) begins.1 ∙ sent_by-append Verifier (turn_bytes (setup_turns setup)) begins.0
     ∙ ap (λ l. l ++ sent_by Verifier begins.0) (sent_by-verifier (setup_turns setup)) in
@@ -693,12 +704,12 @@ no_setup outcome log setup is begins =
 told_replies : (job : VerifierJob) (granted : Option Span) (outcome : VerifierOutcome) (log : List (Side × ℕ)) (setup : Setup) → IsKnown job
     → SendsRightly job granted outcome log → IsSetup job.task.file.params job.task.statement.program setup → BeginsWith log (turn_bytes (setup_turns setup))
     → job.task.file.params.kind ≡ Extended → RepliesAre job.task.file setup
-told_replies job None outcome log setup known sends is begins extended = absurd (no_setup outcome log setup sends begins)
+told_replies job None outcome log setup known sends is begins extended = absurd (no_setup job.task.statement.kind outcome log setup sends begins)
 told_replies job (Some span) outcome log setup known (inl sends) is begins extended =
     served_replies job (granted_from job span.start) log setup known extended is begins sends
-told_replies job (Some span) outcome log setup known (inr refused) is begins extended = absurd (no_setup NoMemory log setup (record {
+told_replies job (Some span) outcome log setup known (inr refused) is begins extended = absurd (no_setup job.task.statement.kind NoMemory log setup (record {
   rest = hello_frame refused.1.0.hello;
-  few = hello_within refused.1.0.hello (greeting_is_hello job known refused.1.0);
+  few = hello_within job.task.statement.kind refused.1.0.hello (greeting_is_hello job known refused.1.0) refused.1.0.fits.form;
   answer = refuse_frame 4;
   refused = inr (4, refl, refl);
   bytes = refused.1.1;

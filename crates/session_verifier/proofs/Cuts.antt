@@ -34,7 +34,7 @@ pub record IsKnown (job : VerifierJob) : Type 0 where
   pub stated : IsStatement job.task.statement
   pub file : IsVerifierFile job.task.file
   pub is : IsVerifierJob job
-  pub opened : length job.task.statement.program.opened ≤ 2 ^ 24
+  pub opened : length job.task.statement.program.opened ≤ 2 ^ 24 + 2 ^ 24
   pub products : length job.task.statement.program.products ≤ 2 ^ 24
 
 pub grant_is : (job : VerifierJob) (start : ℕ) → IsVerifierJob job → start + units_of_job job ≤ job.task.file.params.total

@@ -3,7 +3,7 @@ use Rattle.std.proofs.Common.{◌≡◌, inl, inr, ℕ, ◌+◌, ◌≤◌, List
 use Rattle.std.proofs.lemmas.Option.{same_Some}
 use Rattle.std.proofs.lemmas.List.{take-append-drop, length-map, get_or_at}
 use Rattle.zk_model.specs.Files.{rounds_of}
-use Rattle.zk_model.specs.Transcript.{BeginsWith, hello_frame, grant_frame, refuse_frame, bytes_from, turn_bytes, session_turns, spelling, Hello, Grant, Round, Transcript, IsHello, IsRound, IsTranscript, ask_frame, corrections_frame, challenge_frame, sums_frame, openings_frame, setup_turns, sent_by, TreeAsk, Commitment, IsHelloFor, wanted_hello}
+use Rattle.zk_model.specs.Transcript.{BeginsWith, hello_frame, grant_frame, refuse_frame, bytes_from, turn_bytes, session_turns, spelling, Hello, Grant, Round, Transcript, IsHello, IsRound, IsTranscript, ask_frame, corrections_frame, challenge_frame, sums_frame, openings_frame, setup_turns, sent_by, TreeAsk, Commitment, IsHelloFor, wanted_hello, HasForm, version_of}
 use Rattle.zk_model.specs.Frames.{Frame, frame_spelling, hello, asks, corrections, sums, openings, frame_length, Allows, AreAsks, AreElements, AreSums, CanGoOn}
 use Rattle.zk_model.specs.ServedVerifier.{IsServed, ServesWith}
 use Rattle.zk_model.specs.declared.Side.{Side}
@@ -15,13 +15,13 @@ use Rattle.session_laws.specs.Rounds.{RepliesAreInRange}
 use Rattle.frame_link.specs.Lines.{LinkSnapshot}
 use Rattle.frame_link.proofs.LineLemmas.{none_is_some, front_goes_on, longest, frame_most}
 use Rattle.lease_store.specs.declared.LeaseFault.{LeaseFault}
-use Rattle.session_core.specs.Jobs.{VerifierJob, units_of_job, granted_from, VerifierJobs, IsFirstFor, IsHelloOf, all_jobs, job_at, noted_job}
+use Rattle.session_core.specs.Jobs.{VerifierJob, units_of_job, granted_from, VerifierJobs, AreVerifierJobs, IsFirstFor, IsHelloOf, all_jobs, job_at, noted_job}
 use Rattle.session_core.specs.Judgements.{verdict_in}
 use Rattle.session_core.specs.Cores.{VerifierStage, VerifierAnswers, awaits_hello, owes_grant, behind_grant, awaits_asks, awaits_corrections, awaits_sums, awaits_openings, has_judged, AreAsksSoFar, verifier_expects}
 use Rattle.session_core.specs.declared.judgement.Judgement.{Judgement}
 use Rattle.session_verifier.specs.Outcomes.{HasRefusal, lease_code, refusal_of, hello_code, verifier_line_outcome, verifier_fault_outcome, judgement_outcome, lease_outcome}
 use Rattle.session_verifier.specs.Stages.{IsHeldJob, IsVerifierLogAt, IsAnswer, IsBehind, IsStopped, ComesThere, RefusesAfter, last_turn, Ending, HasEnding, answer_at, outcome_at, lacks_hello, turns_away, lacks_units, lacks_grant, loses_grant, stops_behind, judges}
-use Rattle.session_verifier.specs.Notes.{BeginsRefusal, TellsRightly, IsAllSent, IsTold, BeginsByHello, HasHonestProver, TakesStatement, CompletesForEach, HasHonestCaller}
+use Rattle.session_verifier.specs.Notes.{BeginsRefusal, TellsRightly, IsAllSent, IsTold, BeginsByHello, HasHonestProver, TakesStatement, HasTaken, CompletesForEach, HasHonestCaller}
 use Rattle.session_verifier.proofs.StageLemmas.{logs_on, grant_behind, either_kind, behind_direct, behind_extended, turns_append, one_expected, few_of}
 use Rattle.session_verifier.proofs.CourseLemmas.{judged_session, hello_bytes, lease_refusal, sends_rightly, accepted_judgement, hello_refusal, sends_behind, serves_judged, begins_within}
 use Rattle.session_verifier.specs.declared.note.VerifierOutcome.{VerifierOutcome}
@@ -40,7 +40,9 @@ use Rattle.std.proofs.lemmas.Bool.{cases_order}
 use Rattle.zk_model.specs.Check.{AllBelow}
 use Rattle.zk_model.specs.Statement.{Statement, IsStatement}
 use Rattle.zk_model.specs.Peers.{IsFromHonestProver}
-use Rattle.frame_laws.proofs.Hellos.{wanted_fits, wanted_is_hello}
+use Rattle.frame_laws.proofs.Hellos.{hello_allowed, wanted_fits, wanted_is_hello}
+use Rattle.zk_model.specs.Audit.{hello_place}
+use Rattle.zk_model.specs.declared.StatementKind.{StatementKind}
 use Rattle.proof_frames.proofs.Decoding.{grows}
 use Rattle.proof_frames.proofs.Lengths.{whole_length}
 use Rattle.zk_model.specs.HonestProver.{ProverTask, SentAfter, AreHonestBytes}
@@ -328,34 +330,40 @@ sent_hello job prover rest sent log both alone bytes =
 
 hello_begun : (job : VerifierJob) (prover : ProverTask) (outcome : VerifierOutcome) (rest : List ℕ) (log : List (Side × ℕ))
     → IsStatement job.task.statement
-    → HasHonestProver job prover outcome log → log ≡ bytes_from Prover rest → IsBegun expect.Hello outcome rest
+    → HasHonestProver job prover outcome log → log ≡ bytes_from Prover rest → IsBegun (hello_place job.task.statement.kind) outcome rest
 hello_begun job prover outcome rest log stated peer alone =
     let wanted = wanted_hello job.task.file.id job.task.statement in
     let is : IsHello wanted = wanted_is_hello job.task.file.id job.task.statement peer.counterparts.verifier_file.id stated in
+    let place = hello_place job.task.statement.kind in
+    let allowed : Allows place (hello wanted) =
+    hello_allowed job.task.statement.kind wanted is (wanted_fits job.task.file.id job.task.statement stated).form in
     let honest = peer.honest in
     let came : sent_by Prover log ≡ rest = ap (sent_by Prover) alone ∙ own_bytes Prover rest in
     let begun : hello_frame wanted ≡ rest ++ honest.2.0 =
     sym (sent_hello job prover rest honest.0 log peer.counterparts alone honest.1) ∙ honest.2.1 ∙ ap (λ l. l ++ honest.2.0) came in
-    let whole : length (hello_frame wanted) ≡ frame_length expect.Hello (hello_frame wanted) =
-    whole_length expect.Hello (hello_frame wanted) (hello wanted) (record { allowed = (wanted, refl, is); spelled = refl }) in
+    let whole : length (hello_frame wanted) ≡ frame_length place (hello_frame wanted) =
+    whole_length place (hello_frame wanted) (hello wanted) (record { allowed = allowed; spelled = refl }) in
     record {
       frame = hello wanted;
-      allowed = (wanted, refl, is);
+      allowed = allowed;
       more = [];
       begun = (honest.2.0, append-nil (hello_frame wanted) ∙ begun);
       whole = λ n ended. omega (arith, ap length (sym came ∙ sent_hello job prover rest (sent_by Prover log) log peer.counterparts alone (peer.ended n ended)));
       most = omega (arith, ap length begun, length-append rest honest.2.0);
-      sized = omega (arith, whole, ap (frame_length expect.Hello) begun, grows expect.Hello rest honest.2.0);
+      sized = omega (arith, whole, ap (frame_length place) begun, grows place rest honest.2.0);
     }
 
 -- a session that stops at the hello does so before the whole one of an honest peer of any job
 first_completes : (job mine : VerifierJob) (fault : LineFault) (prover : ProverTask) (first now : LinkSnapshot) → IsStatement mine.task.statement
+    → mine.task.statement.kind ≡ job.task.statement.kind
     → IsStopped job awaits_hello fault first now → HasHonestProver mine prover (verifier_line_outcome fault) now.log → ¬ Rose first.faults now.faults
     → IsComplete (verifier_line_outcome fault)
-first_completes job mine fault prover first now stated stopped peer rose =
+first_completes job mine fault prover first now stated same stopped peer rose =
     let begun = hello_begun mine prover (verifier_line_outcome fault) stopped.rest now.log stated peer (hello_bytes job now.log stopped.comes) in
     stop_completes job awaits_hello fault first now stopped
-    (subst (λ p. IsBegun p (verifier_line_outcome fault) stopped.rest) (sym (one_expected expect.Hello stopped.place (Some expect.Hello) refl stopped.expected)) begun) rose
+    (subst (λ p. IsBegun p (verifier_line_outcome fault) stopped.rest)
+    (ap hello_place same ∙ sym (one_expected (hello_place job.task.statement.kind) stopped.place (Some (hello_place job.task.statement.kind)) refl stopped.expected))
+    begun) rose
 
 -- ---- which statement the hello is for
 
@@ -385,22 +393,35 @@ hello_fits job prover said log stated both honest begins =
     (subst (λ (q : List ℕ × Statement). IsHelloFor q.0 q.1 wanted) (λ i. (both.dealt.id i, both.statement i))
     (wanted_fits prover.file.id prover.statement stated_too))
 
--- hellos for one job are for the same others
-fits_alike : (job other : VerifierJob) (one said : Hello) → IsHelloOf job one → IsHelloOf job said → IsHelloOf other one → IsHelloOf other said
-fits_alike job other one said is fits also = record {
+-- all jobs are about statements of one kind
+kind_at : (jobs : VerifierJobs) (n : ℕ) → AreVerifierJobs jobs → n < length (all_jobs jobs)
+    → (job_at jobs n).task.statement.kind ≡ jobs.first.task.statement.kind
+kind_at jobs zero are within = refl
+kind_at jobs (suc n) are within = are.one_kind n jobs.first (omega (arith, within))
+
+kind_noted : (jobs : VerifierJobs) (taken : Option ℕ) (log : List (Side × ℕ)) → AreVerifierJobs jobs → HasTaken jobs taken log
+    → (noted_job jobs taken).task.statement.kind ≡ jobs.first.task.statement.kind
+kind_noted jobs None log are has = refl
+kind_noted jobs (Some n) log are has = kind_at jobs n are has.1.within
+
+-- hellos for one job are for the same others of its kind
+fits_alike : (job other : VerifierJob) (one said : Hello) → other.task.statement.kind ≡ job.task.statement.kind → IsHelloOf job one → IsHelloOf job said → IsHelloOf other one → IsHelloOf other said
+fits_alike job other one said same is fits also = record {
   id = fits.id ∙ sym is.id ∙ also.id;
-  version = fits.version;
+  form = subst (λ (kind : StatementKind). HasForm kind said.public) (sym same) fits.form;
+  version = fits.version ∙ ap (λ (kind : StatementKind). version_of kind said.public) (sym same);
   circuit = fits.circuit ∙ sym is.circuit ∙ also.circuit;
   outputs = fits.outputs ∙ sym is.outputs ∙ also.outputs;
   public = fits.public ∙ sym is.public ∙ also.public;
 }
 
 -- so they are taken for one
-one_taken : (jobs : VerifierJobs) (m n : ℕ) (said other : Hello) → IsFirstFor jobs m said → IsFirstFor jobs n other
+one_taken : (jobs : VerifierJobs) (m n : ℕ) (said other : Hello) → AreVerifierJobs jobs → IsFirstFor jobs m said → IsFirstFor jobs n other
     → IsHelloOf (job_at jobs n) said → m ≡ n
-one_taken jobs m n said other taken first fits = elim (cases_order m n) [
+one_taken jobs m n said other are taken first fits = elim (cases_order m n) [
   | inl same ↦ same
-  | inr (inl less) ↦ absurd (first.first m less (fits_alike (job_at jobs n) (job_at jobs m) said other fits first.fits taken.fits))
+  | inr (inl less) ↦ absurd (first.first m less (fits_alike (job_at jobs n) (job_at jobs m) said other
+      (kind_at jobs m are taken.within ∙ sym (kind_at jobs n are first.within)) fits first.fits taken.fits))
   | inr (inr more) ↦ absurd (taken.first n more fits)
 ]
 
@@ -681,35 +702,37 @@ pub record AreLaws : Type 0 where
 
 -- where a statement was taken it is the caller's
 same_number : (jobs : VerifierJobs) (taken : Option ℕ) (answer : Option (Result Span LeaseFault)) (span : Span) (outcome : VerifierOutcome) (prover : ProverTask)
-    (log : List (Side × ℕ)) → AllBelow (length (all_jobs jobs)) (λ n. IsStatement (job_at jobs n).task.statement) → TakesStatement jobs taken answer outcome log
+    (log : List (Side × ℕ)) → AreVerifierJobs jobs → AllBelow (length (all_jobs jobs)) (λ n. IsStatement (job_at jobs n).task.statement)
+    → TakesStatement jobs taken answer outcome log
     → answer ≡ Some (Ok span) → (caller : HasHonestCaller jobs prover outcome log) → HasHonestProver (noted_job jobs taken) prover outcome log
-same_number jobs None answer span outcome prover log stated takes leased caller = absurd (none_is_some (sym (takes.none refl) ∙ leased))
-same_number jobs (Some m) answer span outcome prover log stated takes leased caller =
+same_number jobs None answer span outcome prover log are stated takes leased caller = absurd (none_is_some (sym (takes.none refl) ∙ leased))
+same_number jobs (Some m) answer span outcome prover log are stated takes leased caller =
     let has = takes.has in
-    let same : m ≡ caller.number = one_taken jobs m caller.number has.0 caller.hello has.1 caller.first
+    let same : m ≡ caller.number = one_taken jobs m caller.number has.0 caller.hello are has.1 caller.first
     (hello_fits (job_at jobs caller.number) prover has.0 log (stated caller.number caller.first.within) caller.peer.counterparts caller.peer.honest has.2) in
     subst (λ n. HasHonestProver (job_at jobs n) prover outcome log) (sym same) caller.peer
 
-pub completes : (jobs : VerifierJobs) (taken : Option ℕ) (ending : Ending) (first now : LinkSnapshot) → AreLaws
+pub completes : (jobs : VerifierJobs) (taken : Option ℕ) (ending : Ending) (first now : LinkSnapshot) → AreLaws → AreVerifierJobs jobs
     → AllBelow (length (all_jobs jobs)) (λ n. IsStatement (job_at jobs n).task.statement)
     → IsKnown (noted_job jobs taken) → TakesStatement jobs taken (answer_at ending) (outcome_at ending) now.log
     → HasEnding (noted_job jobs taken) ending first now → CompletesForEach jobs (answer_at ending) (outcome_at ending) first now
-completes jobs taken (lacks_hello fault) first now laws stated known takes has prover caller leased rose =
-    first_completes (noted_job jobs taken) (job_at jobs caller.number) fault prover first now (stated caller.number caller.first.within) has caller.peer rose
-completes jobs taken (turns_away (session.BadHello differs)) first now laws stated known takes has prover caller leased rose =
+completes jobs taken (lacks_hello fault) first now laws are stated known takes has prover caller leased rose =
+    first_completes (noted_job jobs taken) (job_at jobs caller.number) fault prover first now (stated caller.number caller.first.within)
+    (kind_at jobs caller.number are caller.first.within ∙ sym (kind_noted jobs taken now.log are takes.has)) has caller.peer rose
+completes jobs taken (turns_away (session.BadHello differs)) first now laws are stated known takes has prover caller leased rose =
     let met = takes.differs differs refl in
     absurd (met.1.1 caller.number caller.first.within
     (hello_fits (job_at jobs caller.number) prover met.1.0 now.log (stated caller.number caller.first.within) caller.peer.counterparts caller.peer.honest met.1.2))
-completes jobs taken (turns_away session.NoMemory) first now laws stated known takes has prover caller leased rose = inr refl
-completes jobs taken (lacks_units fault) first now laws stated known takes has prover caller leased rose = absurd (leased fault refl)
-completes jobs taken (lacks_grant span) first now laws stated known takes has prover caller leased rose = inr refl
-completes jobs taken (loses_grant span fault) first now laws stated known takes has prover caller leased rose =
+completes jobs taken (turns_away session.NoMemory) first now laws are stated known takes has prover caller leased rose = inr refl
+completes jobs taken (lacks_units fault) first now laws are stated known takes has prover caller leased rose = absurd (leased fault refl)
+completes jobs taken (lacks_grant span) first now laws are stated known takes has prover caller leased rose = inr refl
+completes jobs taken (loses_grant span fault) first now laws are stated known takes has prover caller leased rose =
     send_completes fault first now has.1.lost.fault_is has.1.lost.calls rose
-completes jobs taken (stops_behind span fault) first now laws stated known takes has prover caller leased rose =
+completes jobs taken (stops_behind span fault) first now laws are stated known takes has prover caller leased rose =
     behind_completes (noted_job jobs taken) span.start has.1.stage prover fault first now laws.ranges laws.exists laws.turn laws.ends known has.1.behind
-    has.1.stopped (same_number jobs taken (Some (Ok span)) span (verifier_line_outcome fault) prover now.log stated takes refl caller) rose
-completes jobs taken (judges span found) first now laws stated known takes has prover caller leased rose =
-    let peer = same_number jobs taken (Some (Ok span)) span (judgement_outcome found) prover now.log stated takes refl caller in
+    has.1.stopped (same_number jobs taken (Some (Ok span)) span (verifier_line_outcome fault) prover now.log are stated takes refl caller) rose
+completes jobs taken (judges span found) first now laws are stated known takes has prover caller leased rose =
+    let peer = same_number jobs taken (Some (Ok span)) span (judgement_outcome found) prover now.log are stated takes refl caller in
     let job = noted_job jobs taken in
     let session = judged_session job span (Some span) found now.log known refl has.1.log in
     let accepted = laws.accepted prover job.task session.t (verdict_in found) now.log peer.counterparts peer.witness peer.claims session.served peer.honest in

@@ -2,7 +2,10 @@
 use Rattle.std.proofs.Common.{◌≡◌, ◌⊎◌, ℕ, ◌<◌, length, List, [], ◌∷◌, ◌++◌, flat_map, inl, inr, Option, Some, None, IfSome, Result, Ok, Err, MatchOption, refl, ap, sym, ◌∙◌, subst, arith, append-nil, append_assoc, ◌≤◌}
 use Rattle.std.proofs.lemmas.Option.{same_Some}
 use Rattle.std.specs.Prelude.{IsSome}
-use Rattle.zk_model.specs.Transcript.{grant_frame, bytes_from, Hello, IsHello, hello_frame, refuse_frame}
+use Rattle.frame_laws.proofs.Hellos.{allowed_hello}
+use Rattle.zk_model.specs.Audit.{hello_place}
+use Rattle.zk_model.specs.declared.StatementKind.{StatementKind}
+use Rattle.zk_model.specs.Transcript.{grant_frame, bytes_from, Hello, IsHello, HasForm, hello_frame, refuse_frame}
 use Rattle.zk_model.specs.Frames.{Frame, grant, frame_spelling, Allows, hello}
 use Rattle.zk_model.specs.declared.Expect.{Expect}
 use Rattle.zk_model.specs.declared.Side.{Side}
@@ -238,6 +241,12 @@ tried_adds None log first now well = ([], well.logged ∙ sym (append-nil log))
 tried_adds (Some code) log first now (inl well) = (bytes_from Verifier (refuse_frame code), well.logged)
 tried_adds (Some code) log first now (inr lost) = ([], lost.logged ∙ sym (append-nil log))
 
+-- a hello at its place has a form of the kind
+form_of : (kind : StatementKind) (said : Hello) (frame : Frame) → frame ≡ hello said → Allows (hello_place kind) frame → HasForm kind said.public
+form_of kind said frame is placed =
+    let has = allowed_hello kind frame placed in
+    subst (λ (h : Hello). HasForm kind h.public) (ap (hello_in said) (sym has.1 ∙ is)) has.3
+
 -- ---- which statement a hello is taken for
 
 -- one that a core meets is taken for some
@@ -250,14 +259,15 @@ taken_number jobs (Some n) said frame takes is greets = (n, refl)
 
 -- so it is greeted
 pub greeted_by : {R : Type 0} (jobs : VerifierJobs) (old new : Served R) (frame : Frame) {met : VerifierJob} → old.core.stage ≡ awaits_hello
-    → ((said : Hello) × (frame ≡ hello said) × IsHello said × TakesHello jobs said new.taken) → new.core.job ≡ noted_job jobs new.taken
+    → ((said : Hello) × (frame ≡ hello said) × IsHello said × TakesHello jobs said new.taken) → Allows (hello_place met.task.statement.kind) frame
+    → new.core.job ≡ noted_job jobs new.taken
     → new.core.job ≡ met
     → Greets met frame → Greeted jobs old frame new
-greeted_by jobs old new frame waits takes job same greets =
+greeted_by jobs old new frame waits takes placed job same greets =
     let ours : Greets new.core.job frame = subst (λ j. Greets j frame) (sym same) greets in
     let number = taken_number jobs new.taken takes.0 frame takes.3 takes.1 (subst (λ j. Greets j frame) job ours) in
     record {
-      met = record { waits = waits; hello = takes.0; is = takes.1; ranged = takes.2; takes = takes.3; job = job };
+      met = record { waits = waits; hello = takes.0; is = takes.1; ranged = takes.2; takes = takes.3; job = job; placed = subst (λ (j : VerifierJob). Allows (hello_place j.task.statement.kind) frame) (sym same) placed };
       greets = ours;
       number = number.0;
       taken = number.1;
@@ -549,6 +559,7 @@ module _ {R : Type 0} (jobs : VerifierJobs) (grants : Grants R) (old : R) (once 
           has = record {
             said = by.met.hello;
             is = by.met.ranged;
+            form = form_of new.core.job.task.statement.kind by.met.hello frame by.met.is by.met.placed;
             cause = subst (λ f. VerifierRefuses new.core.job awaits_hello f by.fault) by.met.is by.refuses;
             refused = refused_after by.met code (hello_code by.fault) by.code_is tried;
           };

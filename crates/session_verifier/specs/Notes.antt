@@ -6,7 +6,8 @@ use Rattle.zk_model.specs.Correlations.{IsProverView, span_keys}
 use Rattle.zk_model.specs.View.{ChecksHold, SaysVerdict, span_of}
 use Rattle.zk_model.specs.Transcript.{Hello, Setup, Transcript, IsHello, IsHelloFor, IsSetup, IsInOrder, BeginsWith, hello_frame, refuse_frame, bytes_from, turn_bytes, setup_turns, sent_by}
 use Rattle.zk_model.specs.ServedVerifier.{IsServed, IsAccepted, ServesWith, challenge_coin}
-use Rattle.zk_model.specs.declared.Expect.TheVariants as expect
+use Rattle.zk_model.specs.Audit.{hello_place}
+use Rattle.zk_model.specs.declared.StatementKind.{StatementKind}
 use Rattle.zk_model.specs.declared.Side.{Side}
 use Rattle.zk_model.specs.declared.Side.TheVariants.{Prover, Verifier}
 use Rattle.zk_model.specs.declared.Span.{Span}
@@ -73,9 +74,9 @@ pub record IsShown (job : VerifierJob) (granted : Option Span) (log : List (Side
 
 -- The log of a session in which no units were leased: of the prover nothing past its hello; and nothing of the verifier, or the refusal of
 -- its outcome.
-pub record IsUngranted (outcome : VerifierOutcome) (log : List (Side × ℕ)) : Type 0 where
+pub record IsUngranted (kind : StatementKind) (outcome : VerifierOutcome) (log : List (Side × ℕ)) : Type 0 where
   pub rest : List ℕ
-  pub few : IsWithinFrame expect.Hello rest
+  pub few : IsWithinFrame (hello_place kind) rest
   pub answer : List ℕ
   pub refused : (answer ≡ []) ⊎ ((code : ℕ) × (refusal_of outcome ≡ Some code) × (answer ≡ refuse_frame code))
   pub bytes : log ≡ bytes_from Prover rest ++ bytes_from Verifier answer
@@ -88,7 +89,7 @@ EndsByRefusal job code log = (greeting : Greeting job)
 -- What the verifier sends: where units were leased, its part of a session that it serves with their grant, or of a beginning of
 -- one; or, where memory was missing for the grant, a refusal in its place.
 abbrev pub SendsRightly : VerifierJob → Option Span → VerifierOutcome → List (Side × ℕ) → Type 0
-SendsRightly job None outcome log = IsUngranted outcome log
+SendsRightly job None outcome log = IsUngranted job.task.statement.kind outcome log
 SendsRightly job (Some span) outcome log =
     ServesWith job.task (granted_from job span.start) log ⊎ ((outcome ≡ NoMemory) × EndsByRefusal job 4 log)
 
@@ -104,7 +105,7 @@ pub record BeginsRefusal (outcome : VerifierOutcome) (log : List (Side × ℕ)) 
 
 -- the same of a log with a part of an answer whose send was refused
 abbrev pub TellsRightly : VerifierJob → Option Span → VerifierOutcome → List (Side × ℕ) → Type 0
-TellsRightly job None outcome log = IsUngranted outcome log ⊎ BeginsRefusal outcome log
+TellsRightly job None outcome log = IsUngranted job.task.statement.kind outcome log ⊎ BeginsRefusal outcome log
 TellsRightly job (Some span) outcome log =
     ServesWith job.task (granted_from job span.start) log ⊎ ((outcome ≡ NoMemory) × BeginsRefusal NoMemory log)
 

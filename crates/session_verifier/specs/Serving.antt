@@ -1,7 +1,8 @@
 -- What a verifier's end of a session does: it meets the hello and has units leased, of which it sends the grant, and answers what
 -- comes after that as the core does.
 use Rattle.std.specs.Prelude.{◌≡◌, ◌⊎◌, ℕ, ◌+◌, ◌-◌, ◌<◌, ◌≤◌, List, [], ◌∷◌, length, Option, Some, None, IfSome, Result, Ok, Err}
-use Rattle.zk_model.specs.Frames.{Frame, grant}
+use Rattle.zk_model.specs.Audit.{hello_place}
+use Rattle.zk_model.specs.Frames.{Frame, Allows, grant}
 use Rattle.zk_model.specs.Frames.{hello as greeting}
 use Rattle.zk_model.specs.Transcript.{Hello, IsHello}
 use Rattle.zk_model.specs.declared.limits.TheConstants.{MAX_UNITS}
@@ -81,6 +82,7 @@ pub record Met {R : Type 0} (jobs : VerifierJobs) (old : Served R) (frame : Fram
   pub ranged : IsHello hello
   pub takes : TakesHello jobs hello new.taken
   pub job : new.core.job ≡ noted_job jobs new.taken
+  pub placed : Allows (hello_place new.core.job.task.statement.kind) frame
 
 -- one for a statement
 pub record Greeted {R : Type 0} (jobs : VerifierJobs) (old : Served R) (frame : Frame) (new : Served R) : Type 0 where

@@ -2,7 +2,7 @@
 use Rattle.std.specs.Prelude.{◌≡◌, ◌⊎◌, ℕ, ◌+◌, ◌≤◌, List, [], ◌∷◌, ◌++◌, flat_map, length, Option, Some, None, Result, Ok, Err}
 use Rattle.zk_model.specs.Program.{section_count}
 use Rattle.zk_model.specs.Files.{IsVerifierFile}
-use Rattle.zk_model.specs.Transcript.{Hello, Round, IsHello, IsHelloFor, hello_frame, grant_frame, ask_frame, corrections_frame, challenge_frame, sums_frame, openings_frame, verdict_frame, refuse_frame, bytes_from, turn_bytes}
+use Rattle.zk_model.specs.Transcript.{Hello, Round, IsHello, IsHelloFor, HasForm, hello_frame, grant_frame, ask_frame, corrections_frame, challenge_frame, sums_frame, openings_frame, verdict_frame, refuse_frame, bytes_from, turn_bytes}
 use Rattle.zk_model.specs.Frames.{Frame, hello, Allows, AreElements, AreSums, IsWhole, frame_spelling}
 use Rattle.zk_model.specs.ServedVerifier.{challenge_coin}
 use Rattle.zk_model.specs.View.{verdict_code, verdict_number}
@@ -165,6 +165,7 @@ RefusesAfter said code first now = Tries Verifier (bytes_from Prover (hello_fram
 pub record IsTurnedAway (job : VerifierJob) (fault : VerifierFault) (first now : LinkSnapshot) : Type 0 where
   pub said : Hello
   pub is : IsHello said
+  pub form : HasForm job.task.statement.kind said.public
   pub cause : VerifierRefuses job awaits_hello (hello said) fault
   pub refused : RefusesAfter said (hello_code fault) first now
 

@@ -2,7 +2,7 @@
 ghost use Rattle.std.specs.Prelude.{◌≡◌, ◌+◌, ◌<◌, ◌≤◌, ℕ, [], ◌∷◌, None, Some, map, length, All, IfSome, IsSome, IfOk, IfErr, OnOk, IsSomeAnd, MatchOption, IsTrue};
 ghost use Rattle.zk_model.specs.Frames as model;
 ghost use Rattle.zk_model.specs.Frames.{Allows};
-ghost use Rattle.zk_model.specs.declared.Expect.TheVariants as expect;
+ghost use Rattle.zk_model.specs.Audit.{hello_place};
 ghost use Rattle.zk_model.specs.declared.Side.TheVariants.{Prover, Verifier};
 ghost use Rattle.frame_link.specs.Lines.{snapshot_of};
 ghost use Rattle.proof_frames.specs.Frames.{frame_value, IsShort};
@@ -68,9 +68,10 @@ fn take_statement<'a>(
     taken: &mut Option<u32>,
     frame: &Frame,
 )
-    requires expected { Allows expect.Hello (frame_value frame.now) }
+    requires expected { Allows (hello_place jobs.now.first.task.statement.kind) (frame_value frame.now) }
     ensures takes { (said : Hello) × (frame_value frame.now ≡ model.hello said) × IsHello said
         × TakesHello jobs.now said taken.new }
+    ensures place { Allows (hello_place core.new.job.task.statement.kind) (frame_value frame.now) }
     ensures core { core.new ≡ record { job = noted_job jobs.now taken.new; stage = awaits_hello } }
     ensures within { IfSome taken.new (λ n. n < length (all_jobs jobs.now)) }
 {
@@ -88,7 +89,7 @@ fn meet(
     frame: Frame,
 ) -> Result<(), Refusal<VerifierOutcome>>
     requires waits { core.old.stage ≡ awaits_hello }
-    requires expected { Allows expect.Hello (frame_value frame) }
+    requires expected { Allows (hello_place core.old.job.task.statement.kind) (frame_value frame) }
     ensures met { OnOk result (Greets core.old.job (frame_value frame)) }
     ensures due { OnOk result (core.new ≡ record core.old { stage = owes_grant }) }
     ensures refused { IfErr result (λ refusal. (fault : VerifierFault)
@@ -139,7 +140,7 @@ fn grant_units<'a, R: Grantor>(
     requires ungranted { granted.old ≡ None }
     requires place { IsPlace (grants_of R.answer R.asked R.total R.may R.moves)
         (served jobs.now core.old taken.old granted.old grantor.old) None }
-    requires expected { Allows expect.Hello (frame_value frame) }
+    requires expected { Allows (hello_place jobs.now.first.task.statement.kind) (frame_value frame) }
     ensures answered { IfOk result (λ answer.
         GrantsUnits jobs.now (grants_of R.answer R.asked R.total R.may R.moves)
         (served jobs.now core.old taken.old granted.old grantor.old) (frame_value frame)
@@ -250,7 +251,7 @@ impl<'a, R: Grantor> Party<R> for Serving<'a> {
 
     fn lack_code(&self) -> Option<u8> {
         match self.core.expects() {
-            Some(Expect::Hello) => Some(4),
+            Some(Expect::Hello | Expect::ShortHello) => Some(4),
             _ => None,
         }
     }

@@ -3,7 +3,7 @@ ghost use Rattle.std.specs.Prelude.{◌≡◌};
 
 use crate::log_desk::LogKeeper;
 use crate::note::SessionNote;
-use crate::verify::verify_session;
+use crate::verify::{are_stated, verify_session};
 use lease_store::Grantor;
 use session_core::VerifierJobs;
 use session_pool::Session;
@@ -54,6 +54,7 @@ impl<'a, L: Link + Drop, K: LogKeeper> Session<L> for Verification<'a, K> {
         grantor: &mut T,
         link: L,
     ) -> SessionNote<L> {
+        are_stated(self.jobs);
         let note = verify_session(rt, alloc, self.jobs, grantor, link);
         self.keeper.keep(alloc, &note);
         note

@@ -28,7 +28,7 @@ use zk_model::Side;
 use zk_port::Link;
 
 /// Every job is about a statement.
-fn are_stated(jobs: &VerifierJobs<'_>)
+pub(crate) fn are_stated(jobs: &VerifierJobs<'_>)
     ensures { AllBelow (length (all_jobs jobs.now))
         (λ n. IsStatement (job_at jobs.now n).task.statement) }
 {
@@ -100,6 +100,7 @@ pub fn verify_session<H: Threads + Sync, L: Link, R: Grantor>(
     extraction_holds();
     keys_fit();
     are_stated(jobs);
+    let _few = jobs.count();
     let mut line = Line::new(alloc, link, Side::Verifier);
     let course = serve(rt, alloc, jobs, grantor, &mut line);
     let job = jobs.noted(course.taken);

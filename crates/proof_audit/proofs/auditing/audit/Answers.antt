@@ -1,11 +1,28 @@
-use Rattle.std.proofs.Common.{◌≡◌, refl, sym, ◌∙◌, subst}
+use Rattle.std.proofs.Common.{◌≡◌, ◌≤◌, refl, sym, ◌∙◌, ap, subst, length, arith}
+use Rattle.std.proofs.lemmas.List.{length-map}
+use Rattle.std.proofs.lemmas.List.FromFn.{length-range_with_len}
+use Rattle.zk_model.specs.Boolean.{circuit_program}
+use Rattle.zk_model.specs.Program.{Program}
+use Rattle.zk_model.specs.declared.Product.{Product}
 use Rattle.std.specs.Prelude.{IfSome}
-use Rattle.zk_model.specs.Statement.{circuit_statement}
+use Rattle.zk_model.specs.Statement.{Statement, circuit_statement}
 use Rattle.zk_model.specs.ServedVerifier.{VerifierTask}
 use Rattle.proof_audit.specs.Audits.{IsAudited, audit_task}
 use Rattle.proof_audit.specs.Sessions.{IsReadSession}
 use Rattle.proof_audit.proofs.Audits.{IsAbout, finds}
 use Rattle.proof_audit.proofs.auditing.audit.Goals as goal
+
+pub session_finding-requires-clause-checked : goal.session_finding-requires-clause-checked
+session_finding-requires-clause-checked c =
+    subst (λ (s : Statement). s.program.givens ≤ length s.program.products) (sym (c.statement-statement.ensures ∙ c.in_ok-claim.ensures)) (omega (arith, count))
+  where
+    program : Program
+    program = circuit_program (length c.args.public.now) c.args.circuit
+
+    count : length program.products ≡ program.givens
+    count = sym (length-map program.products (λ (product : Product). product.c))
+        ∙ ap length (c.products_are_numbered.ensures (length c.args.public.now) c.args.circuit)
+        ∙ length-range_with_len 0 program.givens
 
 pub returns : goal.returns
 returns c = record {

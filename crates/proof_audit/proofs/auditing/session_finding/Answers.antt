@@ -78,13 +78,17 @@ returns-in-Some-of_output c = λ task same audited.
     c.in_ok-of_output.ensures.some) in
     gives_opening c.args.prover.now task c.args.session.now c.as_slice-pairs.result.now c.in_ok-wires.wires.pairs found.0 are c.in-Some-of_output.finding right found.1 found.2
 
-pub inputs-requires : goal.inputs-requires
-inputs-requires c =
+pub inputs-requires-clause-given : goal.inputs-requires-clause-given
+inputs-requires-clause-given c =
     let known = are_known c.args.prover.now c.args.statement.now c.args.session.now _ c.as_slice-pairs.result.now _ c.in_ok-wires.wires c.in_ok-held.ensures
     c.as_slice-pairs.ensures c.in_ok-wires.ensures.program c.in_ok-wires.ensures.given c.deref.ensures.value c.in_ok-wires.ensures.carried in
     let both = as_seen c.args.prover.now c.requires.audited.0 c.args.statement.now c.args.session.now c.as_slice-pairs.result.now c.in_ok-wires.wires known c.requires.audited.1 c.requires.audited.2 in let are = both.0 in let side = both.1 in
     given_counted c.args.prover.now c.requires.audited.0 c.args.session.now c.as_slice-pairs.result.now c.in_ok-wires.wires.pairs are
     ∙ ap (λ (side : SeenSide). side.program.givens) (sym side)
+
+pub inputs-requires-clause-checked : goal.inputs-requires-clause-checked
+inputs-requires-clause-checked c =
+    subst (λ (p : Program). p.givens ≤ length p.products) (sym c.in_ok-wires.ensures.program) c.requires.checked
 
 pub returns : goal.returns
 returns c = λ task same audited.

@@ -15,7 +15,7 @@ use Rattle.proof_frames.specs.Rows.{row_of}
 use Rattle.proof_frames.proofs.Fields.{one_item}
 use Rattle.proof_frames.proofs.Finished.{HoldsWhole, raw_payload, raw_finished, list_finished, elements_held}
 use Rattle.proof_frames.proofs.Sums.{flattened_bytes}
-use Rattle.proof_frames.proofs.Words.{Says, hello_said, grant_said, verdict_said, are_sums}
+use Rattle.proof_frames.proofs.Words.{Says, hello_said, short_hello_said, grant_said, verdict_said, are_sums}
 use Rattle.proof_frames.proofs.whole.whole_frame.Goals.{Start}
 use Rattle.proof_frames.proofs.whole.whole_frame.Goals as goal
 
@@ -27,6 +27,11 @@ pub returns-in-Hello : goal.returns-in-Hello
 returns-in-Hello c =
     raw_finished c.args.place expect.Hello c.args.held.now c.payload.result.now _ c.in-Hello.is refl (done (goal.at.returns-in-Hello c).Start) c.payload.ensures
     (λ has. rw c.hello_of.ensures (hello_said _ _ has.fits))
+
+pub returns-in-ShortHello : goal.returns-in-ShortHello
+returns-in-ShortHello c =
+    raw_finished c.args.place expect.ShortHello c.args.held.now c.payload-in-ShortHello.result.now _ c.in-ShortHello.is refl (done (goal.at.returns-in-ShortHello c).Start)
+    c.payload-in-ShortHello.ensures (λ has. rw c.hello_of-in-ShortHello.ensures (short_hello_said 0 _ has.fits))
 
 pub returns-in-Grant : goal.returns-in-Grant
 returns-in-Grant c =

@@ -1,4 +1,4 @@
-use Rattle.std.proofs.Common.{rules, length, ap, sym, subst, ◌^◌, ◌≤◌, ◌∙◌, []}
+use Rattle.std.proofs.Common.{rules, length, ap, sym, subst, ◌^◌, ◌+◌, ◌≤◌, ◌∙◌, []}
 use Rattle.zk_model.specs.declared.Side.TheVariants.{Prover, Verifier}
 use Rattle.frame_link.specs.Lines.{LinkSnapshot, snapshot, snapshot_of}
 use Rattle.session_prover.specs.Stages.{Claim, IsSoundJob}
@@ -23,7 +23,7 @@ sound_of g c = record {
   stated = subst IsStatement c.statement.ensures.statement c.program.ensures.stated;
   givens = subst (λ (p : Program). p.givens ≤ 2 ^ 24) (c.program.ensures.program ∙ ap (λ (s : Statement). s.program) c.statement.ensures.statement) c.opened-opened.ensures.held.givens;
   products = subst (λ (p : Program). length p.products ≤ 2 ^ 24) (c.program.ensures.program ∙ ap (λ (s : Statement). s.program) c.statement.ensures.statement) c.opened-opened.ensures.held.products;
-  opened = subst (λ (p : Program). length p.opened ≤ 2 ^ 24) (c.program.ensures.program ∙ ap (λ (s : Statement). s.program) c.statement.ensures.statement) c.opened-opened.ensures.held.opened;
+  opened = subst (λ (p : Program). length p.opened ≤ 2 ^ 24 + 2 ^ 24) (c.program.ensures.program ∙ ap (λ (s : Statement). s.program) c.statement.ensures.statement) c.opened-opened.ensures.held.opened;
 }
 
 -- the line's moments are those

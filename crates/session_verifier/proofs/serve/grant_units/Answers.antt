@@ -24,7 +24,7 @@ returns-in-Err-clause-refused g c =
     let job : c.meet.new.core.job ≡ c.noted-job.result.now = c.in_ok-meet.ensures.job ∙ same in (
       refl,
       inr (inl (record {
-        greeted = greeted_by c.args.jobs.now _ _ (frame_value c.args.frame) c.requires.place.0 c.take_statement.ensures.takes
+        greeted = greeted_by c.args.jobs.now _ _ (frame_value c.args.frame) c.requires.place.0 c.take_statement.ensures.takes c.take_statement.ensures.place
             (job ∙ c.noted-job.ensures.noted) c.in_ok-meet.ensures.job c.in_ok-meet.ensures.met;
         fault = c.in-Err.fault;
         leased = leases_for _ c.units.result c.noted-job.result.now c.meet.new.core.job (Err c.in-Err.fault) _ _ c.units.ensures.units (sym job)
@@ -46,7 +46,7 @@ final_job g c =
 greeted_of : (g : Over) (c : After-grant_frames g)
     → Greeted c.args.jobs.now (served c.args.jobs.now c.args.core.now c.args.taken.now c.args.granted.now c.args.grantor.now) (frame_value c.args.frame)
     (served c.args.jobs.now c.grant_frames.new.core c.take_statement.new.taken (Some c.in-Ok.span) c.grant.new.self)
-greeted_of g c = greeted_by c.args.jobs.now _ _ (frame_value c.args.frame) c.requires.place.0 c.take_statement.ensures.takes
+greeted_of g c = greeted_by c.args.jobs.now _ _ (frame_value c.args.frame) c.requires.place.0 c.take_statement.ensures.takes c.take_statement.ensures.place
     (sym (final_job g c) ∙ c.noted-job.ensures.noted)
     (ap (λ (s : VerifierState). s.job) c.grant_frames.ensures.core ∙ c.in_ok-meet.ensures.job) c.in_ok-meet.ensures.met
 

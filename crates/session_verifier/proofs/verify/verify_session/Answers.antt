@@ -1,4 +1,4 @@
-use Rattle.std.proofs.Common.{rules, ◌^◌, ◌≤◌, [], ap, sym, ◌∙◌, subst, length, arith, Option, Result, ◌≡◌}
+use Rattle.std.proofs.Common.{rules, ◌^◌, ◌+◌, ◌≤◌, [], ap, sym, ◌∙◌, subst, length, arith, Option, Result, ◌≡◌}
 use Rattle.zk_model.specs.Statement.{Statement, IsStatement}
 use Rattle.zk_model.specs.Files.{IsVerifierFile}
 use Rattle.zk_model.specs.Program.{Program}
@@ -29,7 +29,7 @@ known_of g c = subst IsKnown c.noted-job.ensures.noted (record {
   stated = subst IsStatement c.statement.ensures.statement c.program.ensures.stated;
   file = subst IsVerifierFile c.file.ensures.file c.total-total.ensures.file;
   is = c.file.ensures.job;
-  opened = subst (λ (p : Program). length p.opened ≤ 2 ^ 24) (c.program.ensures.program ∙ ap (λ (s : Statement). s.program) c.statement.ensures.statement) c.opened-opened.ensures.held.opened;
+  opened = subst (λ (p : Program). length p.opened ≤ 2 ^ 24 + 2 ^ 24) (c.program.ensures.program ∙ ap (λ (s : Statement). s.program) c.statement.ensures.statement) c.opened-opened.ensures.held.opened;
   products = subst (λ (p : Program). length p.products ≤ 2 ^ 24) (c.program.ensures.program ∙ ap (λ (s : Statement). s.program) c.statement.ensures.statement) c.opened-opened.ensures.held.products;
 })
 
@@ -118,7 +118,7 @@ returns g c =
       came = (come_of g c).came;
       receives = (come_of g c).receives;
       complete = subst (λ (q : Parts). CompletesForEach c.args.jobs.now q.0 q.1.1 first now) same
-          (completes c.args.jobs.now serve.result.taken ending first now laws c.are_stated.ensures known
+          (completes c.args.jobs.now serve.result.taken ending first now laws c.count-few.ensures.few c.are_stated.ensures known
           (subst (λ (q : Parts). TakesStatement c.args.jobs.now serve.result.taken q.0 q.1.1 now.log) (sym same) (statement_of g c)) has);
       faults = subst (λ (q : Parts). CountsFaults q.1.1 first now) same (counts_faults job ending first now has);
       ended = search rules;

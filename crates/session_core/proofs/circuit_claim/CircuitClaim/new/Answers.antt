@@ -1,5 +1,6 @@
 use Rattle.std.proofs.Common.{sym, subst}
 use Rattle.zk_model.specs.Statement.{IsStatement}
+use Rattle.zk_model.specs.declared.StatementKind.TheVariants.{Boolean}
 use Rattle.session_core.proofs.circuit_claim.CircuitClaim.new.Goals as goal
 
 pub invariant_of-result : goal.invariant_of-result
@@ -7,6 +8,7 @@ invariant_of-result c = (
   c.in_ok-plan.ensures.plan,
   subst IsStatement
       (λ i. record {
+        kind = Boolean;
         program = sym c.in_ok-program.ensures i;
         public = sym c.in_ok-values.ensures i;
         claims = sym c.in_ok-claims.ensures i;

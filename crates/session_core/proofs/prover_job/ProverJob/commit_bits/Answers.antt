@@ -6,9 +6,9 @@ use Rattle.zk_model.specs.Program.{Program}
 use Rattle.field_program.specs.Programs.{IsSmallProgram}
 use Rattle.wire_auth.specs.Values.{given_made}
 use Rattle.wire_auth.specs.Walks.{side_made}
-use Rattle.wire_auth.proofs.Correcting.{bits_walked, walked_pairs}
+use Rattle.wire_auth.proofs.Correcting.{bits_walked, length-bits_of_products, walked_pairs}
 use Rattle.session_core.specs.Ends.{IsFixed}
-use Rattle.session_core.specs.Jobs.{ProverJob}
+use Rattle.session_core.specs.Jobs.{AreWitnessBits, IsProverJob, ProverJob}
 use Rattle.session_core.specs.Fixing.{AreEnough, pairs_fixed}
 use Rattle.session_core.proofs.Proving.{job_fixed}
 use Rattle.session_core.proofs.prover_job.ProverJob.commit_bits.Goals as goal
@@ -37,7 +37,7 @@ returns-clause-fixed c =
 
     made : given_made c.self.inside.statement.now.program c.self.inside.statement.now.public c.self.inside.inputs.now
         ≡ bits_of_products c.self.inside.statement.now.program.products c.args.bits.now
-    made = subst (λ (job : ProverJob). job.given ≡ bits_of_products job.statement.program.products c.args.bits.now) (sym c.self.view_is) c.requires.made
+    made = (subst (λ (job : ProverJob). AreWitnessBits job.given job.statement.program c.args.bits.now) (sym c.self.view_is) c.requires.bits).made
 
     walked : (c.in_ok-corrections.corrections.items
         ≡ honest_corrections (given_made c.program-program.result.now c.public-public.result.now c.self.inside.inputs.now) c.args.pairs.now)
@@ -47,3 +47,9 @@ returns-clause-fixed c =
         c.in_ok-corrections.corrections.items c.args.pairs.now
         ((λ i. given_made (program i) (public i) c.self.inside.inputs.now) ∙ made ∙ sym (ap (λ (p : Program). bits_of_products p.products c.args.bits.now) program))
         c.in_ok-corrections.ensures.corrections
+
+pub returns-clause-one_each : goal.returns-clause-one_each
+returns-clause-one_each c =
+    c.in_ok-corrections.ensures.one_each ∙ sym (length-bits_of_products c.program-program.result.now.products c.args.bits.now)
+    ∙ ap (λ (p : Program). length (bits_of_products p.products c.args.bits.now)) (c.program-program.ensures.program ∙ ap (λ (job : ProverJob). job.statement.program) c.self.view_is)
+    ∙ ap length (sym c.requires.bits.made) ∙ (subst IsProverJob c.self.view_is c.self.invariant.0).counted

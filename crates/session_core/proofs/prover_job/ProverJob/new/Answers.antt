@@ -8,6 +8,7 @@ pub invariant_of-result : goal.invariant_of-result
 invariant_of-result c = (
   record { counted = (job_made c.args.statement.now c.args.inputs.now c.program.ensures.stated (subst IsSmallProgram c.program.ensures.program c.givens-givens.ensures.held) c.requires).count },
   c.requires,
+  tt,
 )
 
 pub returns-clause-made : goal.returns-clause-made

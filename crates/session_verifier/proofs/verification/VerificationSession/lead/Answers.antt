@@ -1,4 +1,4 @@
-use Rattle.std.proofs.Common.{[]}
+use Rattle.std.proofs.Common.{[], arith, Option, None, Some, IfSome}
 use Rattle.zk_model.specs.declared.Side.TheVariants.{Verifier}
 use Rattle.frame_link.specs.Lines.{snapshot}
 use Rattle.session_core.specs.Jobs.{noted_job}
@@ -26,7 +26,8 @@ returns-clause-note g c = record {
     receives = c.verify_session-note.ensures.receives;
     complete = completes_noted c.args.self.now.jobs.now c.verify_session-note.result.statement (g.T.Grantor.answer c.verify_session-note.new.grantor)
         c.verify_session-note.result.outcome (snapshot Verifier [] (g.L.Link.state c.args.link))
-        (snapshot Verifier c.verify_session-note.result.log (g.L.Link.state c.verify_session-note.result.link)) c.verify_session-note.ensures.statement.has
+        (snapshot Verifier c.verify_session-note.result.log (g.L.Link.state c.verify_session-note.result.link))
+        (c.are_stated.ensures 0 (omega arith)) c.verify_session-note.ensures.statement.has
         c.verify_session-note.ensures.complete;
     ended = c.verify_session-note.ensures.ended;
   };
@@ -36,3 +37,11 @@ returns-clause-note g c = record {
 pub returns-clause-refused : goal.returns-clause-refused
 returns-clause-refused g c =
     refused_by (noted_job c.args.self.now.jobs.now c.verify_session-note.result.statement) (g.T.Grantor.answer c.verify_session-note.new.grantor) c.verify_session-note.result.outcome _ _ c.verify_session-note.ensures.cause
+
+-- what holds in any case
+always : {X : Type 0} (P : Type 0) (answer : Option X) → P → IfSome answer (λ x. P)
+always P None holds = tt
+always P (Some x) holds = holds
+
+pub returns-clause-sized : goal.returns-clause-sized
+returns-clause-sized g c = always _ (g.T.Grantor.answer c.verify_session-note.new.grantor) c.verify_session-note.ensures.sized
