@@ -14,8 +14,9 @@ not listen, and a prover why it is not connected.
 """
 import pathlib
 import sys
-from typing import List, NamedTuple, Optional, Tuple
+from typing import Dict, List, NamedTuple, Optional, Tuple
 
+import arithmetic
 import bristol
 import common
 import dealt_files
@@ -543,6 +544,112 @@ def too_large() -> List[Run]:
     return [Run(f"serve here z.verifier {file} 1 --sessions 1", [line], 9)]
 
 
+# Texts of arithmetic circuits, the first at whose inputs, 3 and no other small one, its assertion is met.
+ARITH_TEXTS = {
+    "arith_square.txt": b"4 4 1 1 MUL 0 0 1 CONST 2305843009213693942 2 ADD 1 2 3 ASSERT 3\n",
+    "arith_no_gates.txt": b"0 2 2 1\n",
+    "arith_no_outputs.txt": b"1 3 2 0 ADD 0 1 2\n",
+    "arith_empty.txt": b"0 0 0 0\n",
+    "arith_input.txt": b"1 2 2 2 ASSERT 1\n",
+    "arith_constants.txt": b"3 3 0 3 CONST 2305843009213693950 0 CONST 007 1 ADD 0 1 2\n",
+    "arith_wrap.txt": b"2 4 2 2 ADD 0 1 2 MUL 0 1 3\n",
+}
+
+# A text for each fault of arithmetic circuits, of which two have an earlier one; and its token or wire.
+ARITH_FAULTS = [
+    ("arith_short.txt", b"1 3 2 1 MUL 0 1", "ShortText", 7),
+    ("arith_bad_number.txt", b"1 3 2 1 MUL 0 x 9", "BadNumber", 6),
+    ("arith_too_large.txt", b"16777217 3 2 1", "TooLarge", 0),
+    ("arith_sizes.txt", b"0 3 4 5", "WireRange", 2),
+    ("arith_bad_gate.txt", b"1 3 2 1 XOR 0 1 2", "BadGate", 4),
+    ("arith_bad_constant.txt", b"1 1 0 1 CONST 2305843009213693951 0", "BadConstant", 5),
+    ("arith_wire_range.txt", b"1 3 2 1 MUL 9 x 2", "WireRange", 5),
+    ("arith_read_before_set.txt", b"1 2 1 1 ASSERT 1", "ReadBeforeSet", 5),
+    ("arith_set_twice.txt", b"1 3 2 1 ADD 0 0 1", "SetTwice", 7),
+    ("arith_output_unset.txt", b"0 3 1 2", "OutputUnset", 1),
+    ("arith_extra_text.txt", b"0 3 1 2 0", "ExtraText", 4),
+]
+
+# Files of elements.
+VALUES = {
+    "three.values": b"3\n",
+    "four.values": b"4",
+    "two.values": b"2305843009213693950\t\r\n0002",
+    "zero.values": b"5 0",
+    "empty.values": b" \n",
+    "none.values": b"none",
+    "beyond.values": b"1 2305843009213693951",
+}
+
+
+def arith_chain() -> bytes:
+    """A circuit of 6,000 gates of each kind in turn over two inputs, whose assertions are of differences that are 0."""
+    lines: List[str] = []
+    wire = 2
+    while len(lines) < 6000:
+        last = wire - 1
+        gates = [f"MUL {last} {wire // 2} {wire}", f"CONST {2**61 - 2} {wire + 1}", f"MUL {wire} {wire + 1} {wire + 2}"]
+        lines += gates + [f"ADD {wire} {wire + 2} {wire + 3}", f"ASSERT {wire + 3}", f"ADD {wire} {wire // 3} {wire + 4}"]
+        wire += 5
+    return "\n".join([f"{len(lines)} {wire} 2 3", *lines, ""]).encode()
+
+
+def arith_files() -> Dict[str, bytes]:
+    """The files of arithmetic circuits and of elements that runs take, beside the example."""
+    faulty = {name: text for name, text, _, _ in ARITH_FAULTS}
+    return {**ARITH_TEXTS, **faulty, **VALUES, "arith_chain.txt": arith_chain()}
+
+
+def rehearse_arith_run(file: str, values: str, section: Optional[int] = None, extended: bool = False) -> Run:
+    """A rehearsal of an arithmetic circuit: a correlation for each input, each MUL and each section."""
+    texts = {**arith_files(), **{name: (EXAMPLES / name).read_bytes() for name in ("balances.txt", "balances.values")}}
+    circuit, inputs = arithmetic.read(texts[file]), arithmetic.elements(texts[values])
+    assert isinstance(circuit, arithmetic.Circuit) and isinstance(inputs, list)
+    words = f"rehearse-arith {file} {values}" + (f" --section {section}" if section else "") + (" --extended" if extended else "")
+    found = arithmetic.evaluate(circuit, inputs)
+    if isinstance(found, int):
+        return Run(words, [f"unsatisfied {circuit.outputs + found}"], 1)
+    sections = -(-circuit.products // (section or 2**20))
+    need = circuit.inputs + circuit.products + sections
+    units = max(1, -(-need // (8 * 1024 if extended else 64)))
+    counts = f"products {circuit.products} sections {sections} correlations {need} units {units}"
+    return Run(words, [f"outputs {arithmetic.word_of(found)}", counts, "accepted"], 0)
+
+
+def arith_refusals() -> List[Run]:
+    """Rehearsals of arithmetic circuits that end with status 2, 3 or 4: the circuit's file comes before that of the values."""
+    runs = []
+    for file, text, name, place in ARITH_FAULTS:
+        assert arithmetic.read(text) == bristol.Fault(name, place), file
+        runs.append(Run(f"rehearse-arith {file} missing", [f"refused {name} {bristol.NUMBERS[name]} {place}"], 3))
+    given: List[Tuple[str, List[str], int]] = [
+        ("arith_square.txt none.values", ["refused BadValue 1 0"], 3),
+        ("arith_square.txt beyond.values", ["refused BadValue 1 1"], 3),
+        ("arith_square.txt empty.values", ["refused Count 2 1 0"], 3),
+        ("arith_square.txt two.values", ["refused Count 2 1 2"], 3),
+        ("arith_square.txt missing", ["failed shelf"], 4),
+        ("missing.txt three.values", ["failed shelf"], 4),
+        ("and.txt three.values", ["refused BadGate 4 4"], 3),
+        ("arith_square.txt", [bristol.USAGE], 2),
+        ("arith_square.txt three.values --section 0", [bristol.USAGE], 2),
+        ("arith_square.txt three.values --public 1", [bristol.USAGE], 2),
+        ("--gates 10 --number 3", [bristol.USAGE], 2),
+    ]
+    return runs + [Run(f"rehearse-arith {words}", lines, status) for words, lines, status in given]
+
+
+def arithmetic_runs() -> List[Run]:
+    """Rehearsals of arithmetic circuits."""
+    pairs = [("arith_square.txt", "three.values"), ("arith_square.txt", "four.values"), ("arith_no_gates.txt", "two.values")]
+    pairs += [("arith_no_outputs.txt", "two.values"), ("arith_empty.txt", "empty.values"), ("arith_input.txt", "zero.values")]
+    pairs += [("arith_input.txt", "two.values"), ("arith_constants.txt", "empty.values"), ("arith_wrap.txt", "two.values")]
+    runs = [rehearse_arith_run(file, values) for file, values in pairs]
+    runs += [rehearse_arith_run("arith_square.txt", "three.values", 1), rehearse_arith_run("arith_wrap.txt", "two.values", None, True)]
+    for file, values in [("arith_chain.txt", "two.values"), ("balances.txt", "balances.values")]:
+        runs += [rehearse_arith_run(file, values, section, extended) for section in (None, 10) for extended in (False, True)]
+    return runs + arith_refusals()
+
+
 def all_runs() -> List[Run]:
     """All runs in order."""
     aes = [aes_case(*AES_B), aes_case(*AES_C_1)]
@@ -551,7 +658,7 @@ def all_runs() -> List[Run]:
         runs += [eval_run(case.file, case.bits, case.outputs, 0), rehearse_run(case)]
     runs += [eval_run(case.file, case.bits, case.outputs, 0) for case in aes]
     runs += [rehearse_run(aes[1])] + refusals() + orders() + sections() + extensions() + public_bits() + dealings()
-    return runs + services() + proofs() + audits() + migrations() + statuses() + bits_in_files() + other_forms() + too_large()
+    return runs + services() + proofs() + audits() + migrations() + statuses() + bits_in_files() + other_forms() + too_large() + arithmetic_runs()
 
 
 def alone() -> bytes:
@@ -560,7 +667,7 @@ def alone() -> bytes:
 
 
 def main() -> int:
-    files = {path.name: path.read_bytes() for path in EXAMPLES.glob("*.txt")}
+    files = {path.name: path.read_bytes() for path in EXAMPLES.glob("*.*") if path.suffix in (".txt", ".values")} | arith_files()
     files[ALONE] = alone()
     if sys.argv[1:] == ["--write"]:
         for name, data in files.items():

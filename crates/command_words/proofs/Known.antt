@@ -12,7 +12,7 @@ use Rattle.command_words.specs.Found.{told}
 use Rattle.command_words.specs.Rows.{Row, ids_of, row_of}
 use Rattle.command_words.specs.Words.{name_of, names_of}
 use Rattle.command_words.specs.declared.table.Name.{Name}
-use Rattle.command_words.specs.declared.table.Name.TheVariants.{Rehearse, Eval, Deal, Serve, ServeMany, Prove, Audit, Migrate, Status}
+use Rattle.command_words.specs.declared.table.Name.TheVariants.{Rehearse, RehearseArith, Eval, Deal, Serve, ServeMany, Prove, Audit, Migrate, Status}
 use Rattle.command_words.proofs.Rows.{same_text}
 use Rattle.command_words.proofs.Steps.{flag, place, valued}
 use Rattle.command_words.proofs.Walks.{KnowsName, KnowsNames, KnowsPlaces, are_apart, is_among, is_apart}
@@ -174,6 +174,7 @@ known_row row simple free alone named_first rules no_defaults defaults valid pla
 pub known_of : (name : Name) → IsKnown (row_of name)
 unfolding is_valued is_flag
 known_of Rehearse = known_row (row_of Rehearse) refl refl refl refl refl refl refl (λ rows. refl) refl refl refl refl refl refl refl refl refl refl refl
+known_of RehearseArith = known_row (row_of RehearseArith) refl refl refl refl refl refl refl (λ rows. refl) refl refl refl refl refl refl refl refl refl refl refl
 known_of Eval = known_row (row_of Eval) refl refl refl refl refl refl refl (λ rows. refl) refl refl refl refl refl refl refl refl refl refl refl
 known_of Deal = known_row (row_of Deal) refl refl refl refl refl refl refl (λ rows. refl) refl refl refl refl refl refl refl refl refl refl refl
 known_of Serve = known_row (row_of Serve) refl refl refl refl refl refl refl (λ rows. refl) refl refl refl refl refl refl refl refl refl refl refl

@@ -3,14 +3,15 @@ use Rattle.std.specs.Prelude.{ℕ, ◌≤◌, Bool, String, Vec, string_bytes}
 use Rattle.std.specs.Option.{option_map}
 use Rattle.std.specs.declared.alloc.Global.{Global}
 use Rattle.zk_model.specs.Files.{AreParams}
-use Rattle.command_words.specs.Words.{Ask, AuditAsk, DealAsk, EvalAsk, MigrateAsk, ProveAsk, RehearseAsk, ServeAsk, ServeManyAsk, ServeOptions, StatusAsk}
-use Rattle.command_words.specs.Words.{audit_ask, deal_ask, eval_ask, migrate_ask, prove_ask, rehearse_ask, serve_ask, serve_many_ask, serve_options, status_ask}
+use Rattle.command_words.specs.Words.{Ask, AuditAsk, DealAsk, EvalAsk, MigrateAsk, ProveAsk, RehearseArithAsk, RehearseAsk, ServeAsk, ServeManyAsk, ServeOptions, StatusAsk}
+use Rattle.command_words.specs.Words.{audit_ask, deal_ask, eval_ask, migrate_ask, prove_ask, rehearse_arith_ask, rehearse_ask, serve_ask, serve_many_ask, serve_options, status_ask}
 use Rattle.command_words.specs.BitWords.{Bits, BitsAsk, said, named}
 use Rattle.command_words.specs.declared.bits.BitsWord.{BitsWord}
 use Rattle.command_words.specs.declared.bits.BitsWord.TheVariants.{Said, Named}
 use Rattle.command_words.specs.declared.asks.Ask.{Ask as AskOf}
-use Rattle.command_words.specs.declared.asks.Ask.TheVariants.{Rehearse, Generate, Eval, Deal, Serve, ServeMany, Prove, Audit, Migrate, Status}
+use Rattle.command_words.specs.declared.asks.Ask.TheVariants.{Rehearse, Generate, RehearseArith, Eval, Deal, Serve, ServeMany, Prove, Audit, Migrate, Status}
 use Rattle.command_words.specs.declared.asks.RehearseAsk.{RehearseAsk as RehearseAskOf}
+use Rattle.command_words.specs.declared.asks.RehearseArithAsk.{RehearseArithAsk as RehearseArithAskOf}
 use Rattle.command_words.specs.declared.asks.EvalAsk.{EvalAsk as EvalAskOf}
 use Rattle.command_words.specs.declared.asks.DealAsk.{DealAsk as DealAskOf}
 use Rattle.command_words.specs.declared.asks.ServeAsk.{ServeAsk as ServeAskOf}
@@ -45,6 +46,10 @@ known_bits bits = bits.items
 abbrev pub rehearse_of : {B C : Type 0} → (B → C) → RehearseAskOf (String Global) B → RehearseAsk C
 rehearse_of given ask =
     rehearse_ask (string_bytes ask.circuit) (given ask.public) (given ask.bits) ask.kind ask.section
+
+abbrev pub rehearse_arith_of : RehearseArithAskOf (String Global) → RehearseArithAsk
+rehearse_arith_of ask =
+    rehearse_arith_ask (string_bytes ask.circuit) (string_bytes ask.values) ask.kind ask.section
 
 abbrev pub eval_of : {B C : Type 0} → (B → C) → EvalAskOf (String Global) B → EvalAsk C
 eval_of given ask = eval_ask (string_bytes ask.circuit) (given ask.bits)
@@ -81,6 +86,7 @@ status_of ask = status_ask (string_bytes ask.file) (option_map (λ name. string_
 abbrev pub ask_of : {B C : Type 0} → (B → C) → Command B → Ask C
 ask_of given (Rehearse ask) = Rehearse (rehearse_of given ask)
 ask_of given (Generate ask) = Generate ask
+ask_of given (RehearseArith ask) = RehearseArith (rehearse_arith_of ask)
 ask_of given (Eval ask) = Eval (eval_of given ask)
 ask_of given (Deal ask) = Deal (deal_of ask)
 ask_of given (Serve ask) = Serve (serve_of given ask)
@@ -113,6 +119,7 @@ pub record AreServeLimits (options : ServeOptions) : Type 0 where
 abbrev pub IsWithinLimits : {B : Type 0} → Command B → Type 0
 IsWithinLimits (Rehearse ask) = IsSectionSize ask.section
 IsWithinLimits (Generate ask) = (1 ≤ ask.gates) × (ask.gates ≤ MAX_GENERATED_GATES) × IsSectionSize ask.section
+IsWithinLimits (RehearseArith ask) = IsSectionSize ask.section
 IsWithinLimits (Deal ask) = AreParams ask.params
 IsWithinLimits (Serve ask) = AreServeLimits (named_options ask.options)
 IsWithinLimits (ServeMany ask) = AreServeLimits (named_options ask.options)

@@ -15,7 +15,7 @@ use Rattle.command_words.specs.declared.table.Need.TheVariants.{Always, Optional
 use Rattle.command_words.specs.declared.table.Row.{Row as RowOf}
 use Rattle.command_words.specs.declared.table.WordKind.{WordKind}
 use Rattle.command_words.specs.declared.table.WordKind.TheVariants as k
-use Rattle.command_words.specs.declared.table.TheConstants.{REHEARSE, EVAL, DEAL, SERVE, SERVE_MANY, PROVE, AUDIT, MIGRATE, STATUS, NAMES}
+use Rattle.command_words.specs.declared.table.TheConstants.{REHEARSE, REHEARSE_ARITH, EVAL, DEAL, SERVE, SERVE_MANY, PROVE, AUDIT, MIGRATE, STATUS, NAMES}
 
 -- ---- rows, with their texts as bytes
 
@@ -51,6 +51,7 @@ row_at row = row_said (λ t. t.now) (λ c. c.now) (λ f. f.now) row
 -- the row of a command
 abbrev pub row_of : Name → Row
 row_of n.Rehearse = row_said (λ t. t.now) (λ c. c.now) (λ f. f.now) REHEARSE
+row_of n.RehearseArith = row_said (λ t. t.now) (λ c. c.now) (λ f. f.now) REHEARSE_ARITH
 row_of n.Eval = row_said (λ t. t.now) (λ c. c.now) (λ f. f.now) EVAL
 row_of n.Deal = row_said (λ t. t.now) (λ c. c.now) (λ f. f.now) DEAL
 row_of n.Serve = row_said (λ t. t.now) (λ c. c.now) (λ f. f.now) SERVE

@@ -18,6 +18,7 @@ use Rattle.command_words.specs.declared.asks.Ask.{Ask as AskOf}
 use Rattle.command_words.specs.declared.asks.Ask.TheVariants as a
 use Rattle.command_words.specs.declared.asks.RehearseAsk.{RehearseAsk as RehearseAskOf}
 pub use Rattle.command_words.specs.declared.asks.GenerateAsk.{GenerateAsk}
+use Rattle.command_words.specs.declared.asks.RehearseArithAsk.{RehearseArithAsk as RehearseArithAskOf}
 use Rattle.command_words.specs.declared.asks.EvalAsk.{EvalAsk as EvalAskOf}
 use Rattle.command_words.specs.declared.asks.DealAsk.{DealAsk as DealAskOf}
 use Rattle.command_words.specs.declared.asks.ServeAsk.{ServeAsk as ServeAskOf}
@@ -48,6 +49,13 @@ rehearse_ask circuit public bits kind section =
 
 abbrev pub generate_ask : ℕ → ℕ → Kind → ℕ → GenerateAsk
 generate_ask gates number kind section = record { gates = gates; number = number; kind = kind; section = section }
+
+abbrev pub RehearseArithAsk : Type 0
+RehearseArithAsk = RehearseArithAskOf (List ℕ)
+
+abbrev pub rehearse_arith_ask : List ℕ → List ℕ → Kind → ℕ → RehearseArithAsk
+rehearse_arith_ask circuit values kind section =
+    record { circuit = circuit; values = values; kind = kind; section = section }
 
 abbrev pub EvalAsk : Type 0 → Type 0
 EvalAsk B = EvalAskOf (List ℕ) B
@@ -127,6 +135,11 @@ rehearse_by None None section None (Some gates) (Some number) extended =
     Some (a.Generate (generate_ask gates number (kind_by extended) section))
 rehearse_by circuit bits section public gates number extended = None
 
+-- `rehearse-arith CIRCUIT VALUES [--section G] [--extended]`
+abbrev pub rehearse_arith_by : FromRow (row_of n.RehearseArith) (Option (Ask BitsAsk))
+rehearse_arith_by circuit values section extended =
+    Some (a.RehearseArith (rehearse_arith_ask circuit values (kind_by extended) section))
+
 -- `eval CIRCUIT BITS`
 abbrev pub eval_by : FromRow (row_of n.Eval) (Option (Ask BitsAsk))
 eval_by circuit bits = Some (a.Eval (eval_ask circuit bits))
@@ -181,6 +194,7 @@ status_by file circuit = Some (a.Status (status_ask file circuit))
 
 abbrev pub asks_by : (name : Name) → FromRow (row_of name) (Option (Ask BitsAsk))
 asks_by n.Rehearse = rehearse_by
+asks_by n.RehearseArith = rehearse_arith_by
 asks_by n.Eval = eval_by
 asks_by n.Deal = deal_by
 asks_by n.Serve = serve_by

@@ -28,6 +28,16 @@ pub struct GenerateAsk {
     pub section: u32,
 }
 
+/// A rehearsal of an arithmetic circuit: its file, that of the input elements, the kind of the dealt files, and how many products a section
+/// has.
+#[derive(Debug, Drop)]
+pub struct RehearseArithAsk<T> {
+    pub circuit: T,
+    pub values: T,
+    pub kind: Kind,
+    pub section: u32,
+}
+
 /// An evaluation: the circuit's file and the bits.
 #[derive(Debug, Drop)]
 pub struct EvalAsk<T, B> {
@@ -119,6 +129,7 @@ pub struct StatusAsk<T> {
 pub enum Ask<T, B> {
     Rehearse(RehearseAsk<T, B>),
     Generate(GenerateAsk),
+    RehearseArith(RehearseArithAsk<T>),
     Eval(EvalAsk<T, B>),
     Deal(DealAsk<T>),
     Serve(ServeAsk<T, B>),

@@ -18,6 +18,8 @@ usage:
   zk rehearse CIRCUIT BITS [--section G] [--extended] [--public BITS]
   zk rehearse --gates N --number S [--section G] [--extended]
       runs a session of both ends in one process
+  zk rehearse-arith CIRCUIT VALUES [--section G] [--extended]
+      the same of an arithmetic circuit
   zk serve ADDRESS FILE CIRCUIT OUTPUTS --sessions N [--workers W] [--section G] [--timeout S] [--logs PREFIX]
            [--follow] [--public BITS]
       verifies N provers that call over TCP
@@ -99,6 +101,21 @@ example: zk rehearse examples/and.txt 11 --section 1
 
 statuses: 0 accepted, 3 the circuit or a number of bits is refused, 4 a file or the output failed, 7 memory was missing,
   9 more units are needed than a session may have
+";
+
+pub const REHEARSE_ARITH: &str = "\
+usage: zk rehearse-arith CIRCUIT VALUES [--section G] [--extended]
+
+As `zk rehearse`, over the arithmetic circuit in the file CIRCUIT, whose wires are integers modulo 2^61 - 1. The file
+VALUES has the input elements: numbers below 2^61 - 1 in decimal, with blanks between.
+
+  --section G      products that are checked at once, 1 to 1048576, which is the default
+  --extended       deals extended files: 8 trees of height 10 and a base of 64
+
+example: zk rehearse-arith circuit.txt values.txt --section 1
+
+statuses: 0 accepted, 1 an assertion of the circuit fails, 3 the circuit, a value or their number is refused, 4 a file or
+  the output failed, 7 memory was missing, 9 more units are needed than a session may have
 ";
 
 pub const SERVE: &str = "\

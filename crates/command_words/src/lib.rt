@@ -22,7 +22,7 @@ mod words;
 
 pub use asks::{
     Ask, AuditAsk, Command, DealAsk, EvalAsk, GenerateAsk, MAX_SESSIONS, MigrateAsk, ProveAsk,
-    RehearseAsk, ServeAsk, ServeManyAsk, ServeOptions, StatusAsk,
+    RehearseArithAsk, RehearseAsk, ServeAsk, ServeManyAsk, ServeOptions, StatusAsk,
 };
 pub use bits::{BitsWord, read_bits, read_bits_word, write_bits};
 pub use help::help_text;

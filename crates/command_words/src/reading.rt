@@ -17,8 +17,8 @@ ghost use Rattle.zk_model.specs.declared.Side.TheVariants.{Prover, Verifier};
 ghost use Rattle.zk_model.specs.declared.limits.TheConstants.{FILE_LIMIT};
 
 use crate::asks::{
-    Ask, AuditAsk, DealAsk, EvalAsk, GenerateAsk, MigrateAsk, ProveAsk, RehearseAsk, SaidCommand,
-    ServeAsk, ServeManyAsk, ServeOptions, StatusAsk,
+    Ask, AuditAsk, DealAsk, EvalAsk, GenerateAsk, MigrateAsk, ProveAsk, RehearseArithAsk,
+    RehearseAsk, SaidCommand, ServeAsk, ServeManyAsk, ServeOptions, StatusAsk,
 };
 use crate::bits::{BitsWord, read_bits_word};
 use crate::found::{At, Found};
@@ -193,6 +193,19 @@ fn kind(extended: bool) -> Kind
     } else {
         Kind::Direct
     }
+}
+
+/// A rehearsal of an arithmetic circuit.
+pub fn rehearse_arith(alloc: Global, found: &Found) -> Result<SaidCommand, Unread>
+    ensures asked { IsReadTo (ask_of bits_ask) (asked_in name.RehearseArith found.now) result }
+    ensures limits { IfOk result IsWithinLimits }
+{
+    Ok(Ask::RehearseArith(RehearseArithAsk {
+        circuit: found.text(alloc, At::Place(0))?,
+        values: found.text(alloc, At::Place(1))?,
+        section: found.number(SECTION)? as u32,
+        kind: kind(found.flag(EXTENDED)),
+    }))
 }
 
 /// An evaluation.

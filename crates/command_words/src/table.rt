@@ -68,6 +68,8 @@ pub const SIDE: TableColumn = Column("SIDE", Side, Always);
 
 pub const STATEMENTS: TableColumn = Column("STATEMENTS", Text, Always);
 
+pub const VALUES: TableColumn = Column("VALUES", Text, Always);
+
 pub const VERIFIER_FILE: TableColumn = Column("VERIFIERFILE", Text, Always);
 
 pub const SOME_BITS: TableColumn = Column("BITS", Bits, Optional);
@@ -114,6 +116,14 @@ pub const REHEARSE: TableRow = Row {
     options: &[SECTION, SOME_PUBLIC, GATES, NUMBER],
     flags: &[EXTENDED],
     help: help::REHEARSE,
+};
+
+pub const REHEARSE_ARITH: TableRow = Row {
+    name: "rehearse-arith",
+    places: &[CIRCUIT, VALUES],
+    options: &[SECTION],
+    flags: &[EXTENDED],
+    help: help::REHEARSE_ARITH,
 };
 
 pub const EVAL: TableRow = Row {
@@ -184,6 +194,7 @@ pub const STATUS: TableRow = Row {
 #[derive(Clone, Copy)]
 pub enum Name {
     Rehearse,
+    RehearseArith,
     Eval,
     Deal,
     Serve,
@@ -197,6 +208,7 @@ pub enum Name {
 /// Each of them.
 pub const NAMES: &[Name] = &[
     Name::Rehearse,
+    Name::RehearseArith,
     Name::Eval,
     Name::Deal,
     Name::Serve,
@@ -222,6 +234,7 @@ impl Name {
     {
         match self {
             Name::Rehearse => REHEARSE,
+            Name::RehearseArith => REHEARSE_ARITH,
             Name::Eval => EVAL,
             Name::Deal => DEAL,
             Name::Serve => SERVE,

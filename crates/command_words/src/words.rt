@@ -11,7 +11,7 @@ use crate::asks::{Command, SaidCommand};
 use crate::bits::BitsWord;
 use crate::found::{Found, find_words};
 use crate::reading::{
-    Unread, audit, deal, eval, migrate, prove, rehearse, serve, serve_many, status,
+    Unread, audit, deal, eval, migrate, prove, rehearse, rehearse_arith, serve, serve_many, status,
 };
 use crate::table::Name;
 use std::alloc::{AllocError, Global};
@@ -62,6 +62,7 @@ fn read_found(alloc: Global, name: Name, found: &Found) -> Result<SaidCommand, U
 {
     match name {
         Name::Rehearse => rehearse(alloc, found),
+        Name::RehearseArith => rehearse_arith(alloc, found),
         Name::Eval => eval(alloc, found),
         Name::Deal => deal(alloc, found),
         Name::Serve => serve(alloc, found),

@@ -1,3 +1,4 @@
+pub mod ArithCauses
 pub mod Asking
 pub mod BitsTexts
 pub mod Causes

@@ -5,7 +5,7 @@ use Rattle.zk_model.specs.Circuit.{Circuit}
 use Rattle.zk_port.specs.Files.{Files}
 use Rattle.command_words.specs.BitWords.{Bits, BitsAsk, said, named, bits_word}
 use Rattle.command_words.specs.Words.{Ask, rehearse_ask, eval_ask, serve_ask, prove_ask, audit_ask}
-use Rattle.command_words.specs.declared.asks.Ask.TheVariants.{Rehearse as rehearse, Generate as generate, Eval as eval, Deal as deal, Serve as serve, ServeMany as serve_many, Prove as prove, Audit as audit, Migrate as migrate, Status as status}
+use Rattle.command_words.specs.declared.asks.Ask.TheVariants.{Rehearse as rehearse, Generate as generate, RehearseArith as rehearse_arith, Eval as eval, Deal as deal, Serve as serve, ServeMany as serve_many, Prove as prove, Audit as audit, Migrate as migrate, Status as status}
 use Rattle.file_commands.specs.Effects.{ShelfChange}
 use Rattle.file_commands.specs.Stops.{HasText, HasCircuit, LoadStop, CircuitStop}
 use Rattle.file_commands.specs.declared.refusal.Refusal.{Refusal}
@@ -39,6 +39,7 @@ IsAskGiven told (rehearse ask) given =
     (public : Bits) × (bits : Bits) × AreGiven told ask.public public × AreGiven told ask.bits bits
     × (given ≡ rehearse (rehearse_ask ask.circuit public bits ask.kind ask.section))
 IsAskGiven told (generate ask) given = given ≡ generate ask
+IsAskGiven told (rehearse_arith ask) given = given ≡ rehearse_arith ask
 IsAskGiven told (eval ask) given =
     (bits : Bits) × AreGiven told ask.bits bits × (given ≡ eval (eval_ask ask.circuit bits))
 IsAskGiven told (deal ask) given = given ≡ deal ask

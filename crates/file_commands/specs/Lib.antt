@@ -1,3 +1,4 @@
+pub mod ArithFiles
 pub mod BitsTexts
 pub mod ClaimedUnits
 pub mod DealRuns

@@ -22,6 +22,8 @@ use Rattle.bristol_reader.specs.Reads.{IsOnlyFault}
 use Rattle.dealer_files.specs.Faults.{IsFirstFileFault}
 use Rattle.dealer_files.specs.declared.fault.FileFault.{FileFault}
 use Rattle.dealer_files.specs.declared.fault.FileFault.TheVariants as file
+use Rattle.element_file.specs.declared.fault.ElementsFault.{ElementsFault}
+use Rattle.element_file.specs.declared.fault.ElementsFault.TheVariants as element
 use Rattle.file_commands.specs.Effects.{DoorChange, ShelfChange, SinkChange, NameFailed, SinkFailed, Effects, HasFailed}
 use Rattle.file_commands.specs.declared.refusal.Refusal.{Refusal}
 use Rattle.file_commands.specs.declared.refusal.Refusal.TheVariants as stop
@@ -77,15 +79,21 @@ file_line file.ZeroKey = codes "refused ZeroKey 6\n"
 file_line file.BadDigest = codes "refused BadDigest 7\n"
 file_line file.NoMemory = codes "memory\n"
 
+-- of a file of elements: the token that is none; or how many are needed, and how many there are
+abbrev pub elements_line : ElementsFault → List ℕ
+elements_line (element.BadValue token) = refused_line (codes "BadValue 1") token
+elements_line (element.Count need got) = pair_line (codes "refused Count 2") need got
+
 -- the line that is written
 abbrev pub stop_line : Refusal → List ℕ
-stop_line stop.Usage = codes "usage: zk deal, eval, rehearse, prove, serve, serve-many, migrate, status or audit\n"
+stop_line stop.Usage = codes "usage: zk deal, eval, rehearse, prove, serve, serve-many, migrate, status, rehearse-arith or audit\n"
 stop_line (stop.BadText fault) = fault_line fault
 stop_line (stop.BadFile fault) = file_line fault
 stop_line (stop.TooLong limit) = refused_line (codes "TooLong 0") limit
 stop_line (stop.ManyPublic inputs got) = pair_line (codes "refused public") inputs got
 stop_line (stop.WrongBits need got) = pair_line (codes "refused bits") need got
 stop_line (stop.WrongOutputs need got) = pair_line (codes "refused outputs") need got
+stop_line (stop.BadElements fault) = elements_line fault
 stop_line (stop.Unsatisfied output) = codes "unsatisfied " ++ decimal output ++ codes "\n"
 stop_line (stop.TooLarge need units) = pair_line (codes "too large") need units
 stop_line (stop.NotDealt unit) = refused_line (codes "NotDealt 8") unit
@@ -110,6 +118,7 @@ stop_status (stop.TooLong limit) = 3
 stop_status (stop.ManyPublic inputs got) = 3
 stop_status (stop.WrongBits need got) = 3
 stop_status (stop.WrongOutputs need got) = 3
+stop_status (stop.BadElements fault) = 3
 stop_status (stop.Unsatisfied output) = 1
 stop_status (stop.NotDealt unit) = 3
 stop_status (stop.BadLog place) = 3

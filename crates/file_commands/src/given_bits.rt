@@ -242,6 +242,7 @@ pub fn read_given<F: Shelf>(
             Ok(Ask::Rehearse(known!(RehearseAsk; ask; circuit, kind, section; public, bits)))
         }
         Ask::Generate(ask) => Ok(Ask::Generate(ask)),
+        Ask::RehearseArith(ask) => Ok(Ask::RehearseArith(ask)),
         Ask::Eval(ask) => {
             let wanted = WantedBits::Private(&[]);
             let bits = word_bits(alloc, shelf, ask.bits, wanted, &ask.circuit)?;

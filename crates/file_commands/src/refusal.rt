@@ -4,6 +4,7 @@ ghost use Rattle.file_commands.specs.declared.refusal.Refusal.TheVariants as sto
 
 use bristol_reader::ReadFault;
 use dealer_files::FileFault;
+use element_file::ElementsFault;
 use std::alloc::AllocError;
 
 /// Why a run stops before its work is done; each has its status and its line.
@@ -25,7 +26,9 @@ pub enum Refusal {
     WrongBits { need: u64, got: u64 },
     /// There are `got` claimed outputs in place of `need`.
     WrongOutputs { need: u64, got: u64 },
-    /// The circuit gives another bit than this claimed output.
+    /// A file of elements is refused.
+    BadElements(ElementsFault),
+    /// The circuit gives another value than this claimed output, or does not meet an assertion: they count on behind the outputs.
     Unsatisfied { output: u64 },
     /// The session needs so many correlations, and units of them above 4,096.
     TooLarge { need: u64, units: u64 },

@@ -1,12 +1,13 @@
 // Writes what a run has to say.
 ghost use Rattle.std.specs.Prelude.{◌≡◌, IfOk, string_bytes};
 ghost use Rattle.zk_port.specs.Changes.{change};
-ghost use Rattle.file_commands.specs.Stops.{Prints, PrintsMade, stop_line, stop_status, fault_line, file_line, pair_line, refused_line};
+ghost use Rattle.file_commands.specs.Stops.{Prints, PrintsMade, stop_line, stop_status, fault_line, file_line, pair_line, refused_line, elements_line};
 ghost use Rattle.file_commands.specs.declared.refusal.Refusal.TheVariants.{NoMemory};
 
 use crate::refusal::Refusal;
 use bristol_reader::ReadFault;
 use dealer_files::FileFault;
+use element_file::ElementsFault;
 use std::alloc::{AllocError, Global};
 use zk_port::{PortFault, Sink};
 
@@ -77,6 +78,16 @@ fn write_file_fault(alloc: Global, fault: FileFault) -> Result<String, AllocErro
     }
 }
 
+/// The line that says the fault of a file of elements.
+fn write_elements_fault(alloc: Global, fault: ElementsFault) -> Result<String, AllocError>
+    ensures { IfOk result (λ line. string_bytes line ≡ elements_line fault) }
+{
+    match fault {
+        ElementsFault::BadValue { token } => write_refused(alloc, "BadValue 1", token),
+        ElementsFault::Count { need, got } => write_pair(alloc, "refused Count 2", need, got),
+    }
+}
+
 /// The line of the stop.
 fn write_stop(alloc: Global, stop: Refusal) -> Result<String, AllocError>
     ensures { IfOk result (λ line. string_bytes line ≡ stop_line stop) }
@@ -85,7 +96,7 @@ fn write_stop(alloc: Global, stop: Refusal) -> Result<String, AllocError>
         Refusal::Usage => {
             String::from_str(
                 alloc,
-                "usage: zk deal, eval, rehearse, prove, serve, serve-many, migrate, status or audit\n",
+                "usage: zk deal, eval, rehearse, prove, serve, serve-many, migrate, status, rehearse-arith or audit\n",
             )
         }
         Refusal::BadText(fault) => write_fault(alloc, fault),
@@ -94,6 +105,7 @@ fn write_stop(alloc: Global, stop: Refusal) -> Result<String, AllocError>
         Refusal::ManyPublic { inputs, got } => write_pair(alloc, "refused public", inputs, got),
         Refusal::WrongBits { need, got } => write_pair(alloc, "refused bits", need, got),
         Refusal::WrongOutputs { need, got } => write_pair(alloc, "refused outputs", need, got),
+        Refusal::BadElements(fault) => write_elements_fault(alloc, fault),
         Refusal::Unsatisfied { output } => Ok(format!(in alloc; "unsatisfied {output}\n")?),
         Refusal::TooLarge { need, units } => write_pair(alloc, "too large", need, units),
         Refusal::NotDealt { unit } => write_refused(alloc, "NotDealt 8", unit),
@@ -124,6 +136,7 @@ fn status_of(stop: Refusal) -> u8
         | Refusal::ManyPublic { .. }
         | Refusal::WrongBits { .. }
         | Refusal::WrongOutputs { .. }
+        | Refusal::BadElements(_)
         | Refusal::NotDealt { .. }
         | Refusal::BadLog { .. }
         | Refusal::StatementLine { .. }

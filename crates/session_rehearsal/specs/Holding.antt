@@ -1,8 +1,7 @@
 -- A session of both ends.
-use Rattle.std.specs.Prelude.{◌≡◌, ℕ, Bool, List, ◌++◌, length, All}
+use Rattle.std.specs.Prelude.{◌≡◌, ℕ, Bool, List, ◌++◌, All}
 use Rattle.zk_model.specs.Mac.{Pair}
 use Rattle.zk_model.specs.Boolean.{bits_of_products}
-use Rattle.zk_model.specs.Program.{Program}
 use Rattle.zk_model.specs.Statement.{Statement}
 use Rattle.zk_model.specs.Files.{ProverFile, VerifierFile}
 use Rattle.zk_model.specs.Correlations.{IsProverView}
@@ -48,11 +47,6 @@ ends_from statement bits prover verifier = record {
   prover = prover;
   verifier = verifier;
 }
-
--- bits of all wires of a program, whose products are these given values
-pub record AreBitsOf (given : List ℕ) (program : Program) (bits : List Bool) : Type 0 where
-  pub whole : length bits ≡ program.wires
-  pub made : given ≡ bits_of_products program.products bits
 
 -- The rounds of a session under a grant in which an honest prover asks and the verifier replies, and the pairs that the prover sees
 -- then.

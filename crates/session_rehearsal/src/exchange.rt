@@ -1,5 +1,5 @@
 // What passes between both ends of a session: each turn is answered by the other end.
-ghost use Rattle.std.specs.Prelude.{◌≡◌, ◌+◌, ◌*◌, ◌≤◌, ℕ, [], List, length, IfOk, Ok};
+ghost use Rattle.std.specs.Prelude.{◌≡◌, ◌+◌, ◌*◌, ◌≤◌, ℕ, [], List, length, IfOk, IfSome, Ok};
 ghost use Rattle.zk_model.specs.Correlations.{span_keys};
 ghost use Rattle.zk_model.specs.Files.{AreDealt, correlations_per_unit};
 ghost use Rattle.zk_model.specs.Transcript.{Round, IsGrant};
@@ -10,12 +10,12 @@ ghost use Rattle.wire_auth.specs.Held.{items_in};
 ghost use Rattle.wire_auth.specs.Values.{given_made};
 ghost use Rattle.session_core.specs.Ends.{whole_grant};
 ghost use Rattle.session_core.specs.Jobs as jobs;
-ghost use Rattle.session_core.specs.Jobs.{units_of_job, granted_from, prover_from};
+ghost use Rattle.session_core.specs.Jobs.{AreWitnessBits, units_of_job, granted_from, prover_from};
 ghost use Rattle.session_core.specs.Fixing.{HoldsKeys, IsFixedUnder};
 ghost use Rattle.session_core.specs.Judgements.{AreLeftSides};
 ghost use Rattle.session_rehearsal.specs.Exchanges.{IsExchangeNoted, IsShortExchange, AreShort, round_log};
 ghost use Rattle.session_rehearsal.specs.Answers.{IsAnswered, IsCounted, IsOpened};
-ghost use Rattle.session_rehearsal.specs.Holding.{AreBitsOf, AreRoundsHeld, HoldsRounds, IsRehearsedSession, ends_of, ends_with};
+ghost use Rattle.session_rehearsal.specs.Holding.{AreRoundsHeld, HoldsRounds, IsRehearsedSession, ends_of, ends_with};
 
 use dealer_files::{ProverFile, VerifierFile};
 use mersenne_field::{Fe, Pair};
@@ -67,21 +67,21 @@ pub(crate) struct OpenedSession {
     pub(crate) opened: Opened,
 }
 
-/// A session of both ends over all units of their files. The prover's file is given up once it has answered the challenge. All wires
-/// have these bits, at these inputs.
+/// A session of both ends over all units of their files. The prover's file is given up once it has answered the challenge. Where there are
+/// bits, all wires have them, at these inputs.
 pub(crate) fn run_session<R: Threads + Sync>(
     rt: &R,
     alloc: Global,
     statement: &Statement<'_>,
     inputs: &[Fe],
-    bits: &[bool],
+    bits: Option<&[bool]>,
     prover_file: ProverFile,
     verifier_file: &VerifierFile,
     section: u32,
 ) -> Result<SessionValues, AllocError>
     requires inputs { length inputs.now ≡ statement.now.program.inputs }
-    requires bits { AreBitsOf (given_made statement.now.program statement.now.public inputs.now)
-        statement.now.program bits.now }
+    requires bits { IfSome bits (λ bits. AreWitnessBits
+        (given_made statement.now.program statement.now.public inputs.now) statement.now.program bits.now) }
     requires dealt { AreDealt prover_file verifier_file.now }
     requires granted { IsGrant prover_file.params statement.now.program
         (whole_grant prover_file.params.total section) }
@@ -103,13 +103,13 @@ fn answer<R: Threads + Sync>(
     alloc: Global,
     statement: &Statement<'_>,
     inputs: &[Fe],
-    bits: &[bool],
+    bits: Option<&[bool]>,
     prover_file: &ProverFile,
     verifier: &VerifierJob<'_>,
 ) -> Result<OpenedSession, AllocError>
     requires inputs { length inputs.now ≡ statement.now.program.inputs }
-    requires bits { AreBitsOf (given_made statement.now.program statement.now.public inputs.now)
-        statement.now.program bits.now }
+    requires bits { IfSome bits (λ bits. AreWitnessBits
+        (given_made statement.now.program statement.now.public inputs.now) statement.now.program bits.now) }
     requires stated { statement.now ≡ verifier.now.task.statement }
     requires dealt { AreDealt prover_file.now verifier.now.task.file }
     requires within { units_of_job verifier.now ≤ verifier.now.task.file.params.total }
@@ -117,10 +117,10 @@ fn answer<R: Threads + Sync>(
         (IsAnswered (prover_from statement.now inputs.now prover_file.now) verifier.now) }
     ensures counted { IfOk result (IsCounted verifier.now) }
 {
-    let prover = ProverJob::new(statement, prover_file, inputs);
+    let prover = ProverJob::with_bits(statement, prover_file, inputs, bits);
     let grant = verifier.grant(0);
     let established = establish(rt, alloc, &prover, verifier, grant)?;
-    let answered = open(rt, alloc, &prover, verifier, grant, bits, established)?;
+    let answered = open(rt, alloc, &prover, verifier, grant, established)?;
     Ok(answered)
 }
 
@@ -215,12 +215,10 @@ fn open<'p, 'v, R: Threads + Sync>(
     prover: &ProverJob<'p>,
     verifier: &VerifierJob<'v>,
     grant: Grant,
-    bits: &[bool],
     established: Correlated<'p, 'v>,
 ) -> Result<OpenedSession, AllocError>
     requires stated { prover.now.statement ≡ verifier.now.task.statement }
     requires dealt { AreDealt prover.now.file verifier.now.task.file }
-    requires bits { AreBitsOf prover.now.given prover.now.statement.program bits.now }
     requires grant { grant ≡ granted_from verifier.now 0 }
     requires held { HoldsRounds prover.now.file verifier.now.task.file grant
         (items_in established.pairs) [] (round_log established.asked.items established.replied.items) }
@@ -241,7 +239,7 @@ fn open<'p, 'v, R: Threads + Sync>(
         keys,
     } = established;
     let seen = pairs.as_slice();
-    let corrections = prover.commit_bits(alloc, grant, seen, bits)?;
+    let corrections = prover.commit(alloc, grant, seen)?;
     let challenge = verifier.challenge(0);
     let held = keys.as_slice();
     let walked = both_walks(

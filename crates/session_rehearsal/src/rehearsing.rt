@@ -1,18 +1,19 @@
 // A rehearsal: files from a seed, and a session of both ends over them.
-ghost use Rattle.std.specs.Prelude.{◌≡◌, ◌≤◌, ◌^◌, ℕ, List, Bool, ◌++◌, length, map, IfOk, IfErr};
-ghost use Rattle.zk_model.specs.Bits.{from_bit};
+ghost use Rattle.std.specs.Prelude.{◌≡◌, ◌≤◌, ◌^◌, ℕ, List, ◌++◌, length, IfOk, IfErr, IfSome};
 ghost use Rattle.zk_model.specs.Boolean.{private_inputs};
 ghost use Rattle.zk_model.specs.Circuit.{AreWireBits};
 ghost use Rattle.dealer_files.specs.Dealing.{dealt_prover, dealt_verifier};
-ghost use Rattle.zk_model.specs.Program.{correlations_needed};
+ghost use Rattle.zk_model.specs.HonestProver.{IsWitness};
+ghost use Rattle.zk_model.specs.Program.{correlations_needed, opened_values};
 ghost use Rattle.zk_model.specs.Transcript.{units_for};
 ghost use Rattle.zk_model.specs.declared.Kind.{Kind};
 ghost use Rattle.zk_model.specs.declared.Side.{Side};
 ghost use Rattle.wire_auth.specs.Values.{given_made};
 ghost use Rattle.session_core.specs.Ends.{whole_grant};
 ghost use Rattle.session_rehearsal.specs.Exchanges.{IsExchangeNoted, IsShortExchange};
-ghost use Rattle.session_rehearsal.specs.Holding.{AreBitsOf, IsRehearsedSession, ends_with};
-ghost use Rattle.session_rehearsal.specs.Rehearsals.{IsClaimed, IsRehearsalOf, RehearseCause, AreRehearsedFiles, rehearsed_params};
+ghost use Rattle.session_core.specs.Jobs.{AreWitnessBits};
+ghost use Rattle.session_rehearsal.specs.Holding.{IsRehearsedSession, ends_with};
+ghost use Rattle.session_rehearsal.specs.Rehearsals.{AboutCause, IsRehearsalAbout, IsRehearsalOf, RehearseCause, AreRehearsedFiles, rehearsed_params};
 ghost use Rattle.zk_model.specs.declared.limits.TheConstants.{MAX_SECTION_LENGTH, MAX_UNITS};
 
 use crate::bits::Bits;
@@ -55,7 +56,7 @@ fn exchange_dealt<R: Threads + Sync>(
     alloc: Global,
     statement: &Statement<'_>,
     inputs: &[Fe],
-    bits: &[bool],
+    bits: Option<&[bool]>,
     kind: Kind,
     section: u32,
     units: u64,
@@ -64,8 +65,8 @@ fn exchange_dealt<R: Threads + Sync>(
     requires at_least_one { 1 ≤ section }
     requires at_most { section ≤ MAX_SECTION_LENGTH }
     requires inputs { length inputs.now ≡ statement.now.program.inputs }
-    requires bits { AreBitsOf (given_made statement.now.program statement.now.public inputs.now)
-        statement.now.program bits.now }
+    requires bits { IfSome bits (λ bits. AreWitnessBits
+        (given_made statement.now.program statement.now.public inputs.now) statement.now.program bits.now) }
     requires units { units
         ≡ units_for (rehearsed_params kind 0) (correlations_needed statement.now.program section) }
     requires units_some { 1 ≤ units }
@@ -86,36 +87,33 @@ fn exchange_dealt<R: Threads + Sync>(
     Ok(exchange)
 }
 
-/// A rehearsal of a claim whose prover has these values of its inputs, and all of whose wires have these bits then.
-fn rehearse_claim<R: Threads + Sync>(
+/// A rehearsal about a statement, whose prover has these values of its inputs: the seed's files of this kind, as many units as the session
+/// takes, and both ends over a log. Where there are bits, all wires have them.
+pub(crate) fn rehearse_about<R: Threads + Sync, O: Drop>(
     rt: &R,
     alloc: Global,
-    claim: &CircuitClaim,
+    statement: &Statement<'_>,
     inputs: &[Fe],
-    wires: &[bool],
-    outputs: Bits,
+    bits: Option<&[bool]>,
+    outputs: O,
     kind: Kind,
     section: u32,
     seed: &[u8; 32],
-) -> Result<Rehearsal, RehearseFault>
+) -> Result<Rehearsal<O>, RehearseFault>
     requires at_least_one { 1 ≤ section }
     requires at_most { section ≤ MAX_SECTION_LENGTH }
-    requires inputs { length inputs.now ≡ claim.now.program.inputs }
-    requires bits { AreBitsOf (given_made claim.now.program claim.now.public inputs.now)
-        claim.now.program wires.now }
-    ensures done { IfOk result (λ r. (circuit : Circuit) (public bits wires : List Bool)
-        → inputs.now ≡ map from_bit bits → IsClaimed circuit public bits wires outputs claim.now
-        → IsRehearsalOf circuit public bits kind section seed.now r) }
-    ensures cause { IfErr result (λ fault. (circuit : Circuit) (public bits wires : List Bool)
-        → IsClaimed circuit public bits wires outputs claim.now
-        → RehearseCause circuit public bits kind section fault) }
+    requires inputs { length inputs.now ≡ statement.now.program.inputs }
+    requires bits { IfSome bits (λ bits. AreWitnessBits
+        (given_made statement.now.program statement.now.public inputs.now) statement.now.program bits.now) }
+    ensures outputs { IfOk result (λ r. r.outputs ≡ outputs) }
+    ensures done { IfOk result (λ r. (wires given : List ℕ)
+        → IsWitness statement.now inputs.now wires given
+        → opened_values statement.now.program wires ≡ statement.now.claims
+        → IsRehearsalAbout statement.now inputs.now kind section seed.now r) }
+    ensures cause { IfErr result (AboutCause statement.now kind section) }
 {
-    bits_make_products();
-    bits_solve();
-    one_outcome();
     honest_session_is_accepted();
     let g = u64::from(section);
-    let statement = claim.statement();
     let program = statement.program();
     let need = program.need(g);
     let units = units_for(&rehearsed_params(kind, 1), need);
@@ -123,7 +121,7 @@ fn rehearse_claim<R: Threads + Sync>(
         return Err(RehearseFault::TooLarge { need, units });
     }
     let exchange = exchange_dealt(
-        rt, alloc, &statement, inputs, wires, kind, section, units, seed,
+        rt, alloc, statement, inputs, bits, kind, section, units, seed,
     )?;
     let log = note(alloc, &exchange)?;
     Ok(Rehearsal {
@@ -180,7 +178,7 @@ pub fn rehearse<R: Threads + Sync>(
     kind: Kind,
     section: u32,
     seed: &[u8; 32],
-) -> Result<Rehearsal, RehearseFault>
+) -> Result<Rehearsal<Bits>, RehearseFault>
     requires public { length public.now ≤ circuit.inputs }
     requires at_least_one { 1 ≤ section }
     requires at_most { section ≤ MAX_SECTION_LENGTH }
@@ -188,13 +186,17 @@ pub fn rehearse<R: Threads + Sync>(
     ensures cause { IfErr result (RehearseCause circuit public.now bits.now kind section) }
 {
     bits_make_products();
+    bits_solve();
+    one_outcome();
     let _wires = circuit.wires();
     let wires = wires_at(alloc, &circuit, public, bits)?;
     let outputs = Bits::copied(alloc, output_bits(&circuit, &wires))?;
     let claim = CircuitClaim::new(alloc, circuit, [0; 32], public, outputs.as_slice())?;
     let inputs = elements_of(alloc, bits)?;
-    let rehearsal = rehearse_claim(
-        rt, alloc, &claim, &inputs, &wires, outputs, kind, section, seed,
+    let statement = claim.statement();
+    let known = Some(wires.as_slice());
+    let rehearsal = rehearse_about(
+        rt, alloc, &statement, &inputs, known, outputs, kind, section, seed,
     )?;
     Ok(rehearsal)
 }

@@ -15,7 +15,7 @@ use std::fmt;
 use std::sync::Wait;
 use std::thread::Threads;
 use twin_journal::JournalKind;
-use zk_cli::{Finish, Part, Rehearsal, run_zk};
+use zk_cli::{Elements, Finish, Part, Rehearsal, run_zk};
 use zk_model::Span;
 use zk_port::Shelf;
 
@@ -36,6 +36,9 @@ impl fmt::Display for HandedBack<'_> {
         match self.part {
             Part::Plain => write!(f, "plain"),
             Part::Rehearsed(rehearsal) => write!(f, "{}", Rehearsed { rehearsal }),
+            Part::RehearsedElements(rehearsal) => {
+                write!(f, "{}", RehearsedElements { rehearsal })
+            }
             Part::Proved(note) => write!(f, "proved {}", proved(note)),
             Part::Served(notes) => {
                 write!(f, "served")?;
@@ -51,7 +54,7 @@ impl fmt::Display for HandedBack<'_> {
 /// What a rehearsal gave.
 #[derive(Clone, Copy)]
 struct Rehearsed<'a> {
-    rehearsal: &'a Rehearsal,
+    rehearsal: &'a Rehearsal<zk_cli::Bits>,
 }
 
 impl fmt::Display for Rehearsed<'_> {
@@ -61,6 +64,26 @@ impl fmt::Display for Rehearsed<'_> {
         };
         let (need, units) = (self.rehearsal.need, self.rehearsal.units);
         write!(f, "rehearsed outputs={outputs} need={need} units={units}")
+    }
+}
+
+/// What a rehearsal of an arithmetic circuit gave.
+#[derive(Clone, Copy)]
+struct RehearsedElements<'a> {
+    rehearsal: &'a Rehearsal<Elements>,
+}
+
+impl fmt::Display for RehearsedElements<'_> {
+    fn fmt<W: fmt::Write>(&self, f: &mut fmt::Formatter<W>) -> fmt::Result {
+        write!(f, "rehearsed elements=")?;
+        let mut separator = "";
+        for element in self.rehearsal.outputs.as_slice() {
+            let value = element.value();
+            write!(f, "{separator}{value}")?;
+            separator = ",";
+        }
+        let (need, units) = (self.rehearsal.need, self.rehearsal.units);
+        write!(f, " need={need} units={units}")
     }
 }
 

@@ -250,7 +250,7 @@ fn rehearsed<R: Threads + Sync>(
     circuit: Circuit,
     public: &[bool],
     private: &[bool],
-) -> Result<Rehearsal>
+) -> Result<Rehearsal<session_rehearsal::Bits>>
     requires { length public.now ≤ circuit.inputs }
 {
     let section = section_of(scenario)?;
@@ -260,7 +260,7 @@ fn rehearsed<R: Threads + Sync>(
 }
 
 /// The line of what a rehearsal gave.
-fn rehearsal_text(alloc: Global, rehearsal: &Rehearsal) -> Result<String> {
+fn rehearsal_text(alloc: Global, rehearsal: &Rehearsal<session_rehearsal::Bits>) -> Result<String> {
     let judged = Judged {
         verdict: rehearsal.verdict,
     };

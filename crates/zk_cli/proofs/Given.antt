@@ -7,7 +7,7 @@ use Rattle.zk_port.specs.Links.{LinkState}
 use Rattle.zk_port.specs.Shelves.{ShelfState}
 use Rattle.command_words.specs.BitWords.{Bits, BitsAsk, said, named}
 use Rattle.command_words.specs.Words.{Ask}
-use Rattle.command_words.specs.declared.asks.Ask.TheVariants.{Rehearse as rehearse, Generate as generate, Eval as eval, Deal as deal, Serve as serve, ServeMany as serve_many, Prove as prove, Audit as audit, Migrate as migrate, Status as status}
+use Rattle.command_words.specs.declared.asks.Ask.TheVariants.{Rehearse as rehearse, Generate as generate, RehearseArith as rehearse_arith, Eval as eval, Deal as deal, Serve as serve, ServeMany as serve_many, Prove as prove, Audit as audit, Migrate as migrate, Status as status}
 use Rattle.statement_file.specs.Services.{service_asked}
 use Rattle.proof_audit.specs.AuditRuns.{Audits}
 use Rattle.status_command.specs.StatusRuns.{Reports}
@@ -24,6 +24,7 @@ use Rattle.file_commands.proofs.Means.{IsHigh, stop_answers}
 use Rattle.zk_cli.specs.ManyRuns.{ServesMany}
 use Rattle.zk_cli.specs.Meets.{DoesGiven, GrantsOnceGiven, IsLocal, LacksBits, Meets, MeetsGiven, Promises, ShowsGiven, follows}
 use Rattle.zk_cli.specs.ProveRuns.{Proves}
+use Rattle.zk_cli.specs.ArithRuns.{RehearsesArith}
 use Rattle.zk_cli.specs.RehearseRuns.{Generates, Rehearses}
 use Rattle.zk_cli.specs.Runs.{Run, run_of}
 use Rattle.zk_cli.specs.ServeRuns.{Serves}
@@ -65,6 +66,7 @@ module _ (why : Refusal) (low : stop_status why ≤ 2) (unloaded : (name : List 
   given_is_high ask shelf (inl is) = let s : stop_status why ≡ 7 = ap stop_status is in omega (arith, s, low)
   given_is_high (rehearse ask) shelf (inr cause) = inputs_are_high ask.circuit ask.public ask.bits shelf cause
   given_is_high (generate ask) shelf (inr cause) = absurd cause
+  given_is_high (rehearse_arith ask) shelf (inr cause) = absurd cause
   given_is_high (eval ask) shelf (inr cause) = word_is_high ask.circuit (Private []) ask.bits shelf cause
   given_is_high (deal ask) shelf (inr cause) = absurd cause
   given_is_high (serve ask) shelf (inr cause) = claimed_are_high ask.circuit ask.public ask.outputs shelf cause
@@ -130,6 +132,7 @@ module _ {F L B D : Type 0} (shelf_tells : F → ShelfState) (door_tells : D →
   meets_on : (ask : Ask Bits) → Meets ask seed disk (run_from mid) → Meets ask seed disk (run_from old)
   meets_on (rehearse ask) meets = (held (λ run. Rehearses ask seed part run) meets.0, local_on meets.1)
   meets_on (generate ask) meets = (held (λ run. Generates ask seed part run) meets.0, local_on meets.1)
+  meets_on (rehearse_arith ask) meets = (held (λ run. RehearsesArith ask seed part run) meets.0, local_on meets.1)
   meets_on (eval ask) meets = (held (λ run. Evaluates ask run) meets.0, meets.1, local_on meets.2)
   meets_on (deal ask) meets = (held (λ run. Deals ask seed run) meets.0, meets.1, local_on meets.2)
   meets_on (audit ask) meets = (held (λ run. Audits ask run) meets.0, meets.1, local_on meets.2)

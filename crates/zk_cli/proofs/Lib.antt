@@ -1,3 +1,4 @@
+pub mod ArithOutcomes
 pub mod Claiming
 pub mod Pairs
 pub mod ProveOutcomes

@@ -8,6 +8,7 @@ use Rattle.std.proofs.lemmas.List.Elements.{All-cons, All-map, All-nil, All-push
 use Rattle.zk_model.specs.Circuit.{Circuit}
 use Rattle.zk_model.specs.Files.{VerifierFile}
 use Rattle.zk_model.specs.Statement.{Statement}
+use Rattle.zk_model.specs.declared.StatementKind.TheVariants.{Boolean}
 use Rattle.zk_model.specs.declared.limits.TheConstants.{MAX_STATEMENTS, MAX_UNITS}
 use Rattle.zk_port.specs.Changes.{change}
 use Rattle.zk_port.specs.Disks.{DiskState}
@@ -25,7 +26,7 @@ use Rattle.file_commands.specs.declared.refusal.Refusal.{Refusal}
 use Rattle.file_commands.specs.declared.refusal.Refusal.TheVariants as stop
 use Rattle.file_commands.proofs.Journals.{untouched}
 use Rattle.zk_cli.specs.ServeRuns.{AreServeJobs, FitStop, IsCircuitName, IsFirstTooLarge, IsServeJob, IsStatementOf, LacksClaim, ServeStop}
-use Rattle.zk_cli.proofs.Pairs.{zip_length, zip_map, zip_push}
+use Rattle.zk_cli.proofs.Pairs.{zip_all, zip_length, zip_map, zip_push}
 use Rattle.zk_cli.proofs.Serving.{loads_claim}
 
 -- a list is what stands before a place, what stands there, and the rest
@@ -138,6 +139,11 @@ are_jobs told service file statements jobs at zip few are =
     let IsOver : VerifierJob → Type 0 = λ job. job.task.file ≡ file in
     let all : All IsOver (all_jobs jobs) =
     subst (All IsOver) (sym are) (All-map IsOver (job_over service file) statements (λ k d within. refl)) in
+    let IsBoolean : VerifierJob → Type 0 = λ job. job.task.statement.kind ≡ Boolean in
+    let boolean : All IsBoolean (all_jobs jobs) =
+    subst (All IsBoolean) (sym are) (All-map IsBoolean (job_over service file) statements
+    (zip_all (IsStatementOf told) (λ statement. statement.kind ≡ Boolean) (λ claim statement is. ap (λ (s : Statement). s.kind) is.1.statement_is)
+    service.claims statements zip)) in
     let size : length (all_jobs jobs) ≡ length service.claims =
     ap length are ∙ length-map statements (job_over service file) ∙ sym (zip_length (IsStatementOf told) service.claims statements zip) in
     record {
@@ -146,6 +152,7 @@ are_jobs told service file statements jobs at zip few are =
           (λ claim statement is. (is.0, record { claim = is.1; file = at; section = refl })) service.claims statements zip);
       are = record {
         one_file = λ k d within. all (suc k) d (omega (arith, within)) ∙ sym (all 0 d (omega arith));
+        one_kind = λ k d within. boolean (suc k) d (omega (arith, within)) ∙ sym (boolean 0 d (omega arith));
         few = omega (arith, size, few);
       };
     }

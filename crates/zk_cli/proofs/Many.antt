@@ -23,7 +23,7 @@ use Rattle.zk_cli.specs.ManyRuns.{ServesMany, StatementsStop}
 use Rattle.zk_cli.specs.Runs.{EachNote, OfNotes}
 use Rattle.zk_cli.specs.ServeRuns.{HasServeFailed, IsServable, IsWithHonestProver, Serves}
 use Rattle.zk_cli.specs.declared.finish.Part.{Part}
-use Rattle.zk_cli.specs.declared.finish.Part.TheVariants.{Plain, Proved, Rehearsed, Served}
+use Rattle.zk_cli.specs.declared.finish.Part.TheVariants.{Plain, Proved, Rehearsed, RehearsedElements, Served}
 
 -- what holds of the sessions that are handed back
 pub of_notes : {L : Type 0} (part : Part L) (P Q : List (SessionNote L) → Type 0) → ((notes : List (SessionNote L)) → P notes → Q notes)
@@ -31,6 +31,7 @@ pub of_notes : {L : Type 0} (part : Part L) (P Q : List (SessionNote L) → Type
 of_notes (Served notes) P Q then holds = then notes.items holds
 of_notes Plain P Q then holds = tt
 of_notes (Rehearsed r) P Q then holds = tt
+of_notes (RehearsedElements r) P Q then holds = tt
 of_notes (Proved note) P Q then holds = tt
 
 -- ---- why there are no claims

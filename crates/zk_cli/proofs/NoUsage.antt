@@ -5,21 +5,22 @@ use Rattle.dealer_files.specs.declared.fault.FileFault.TheVariants as file
 use Rattle.session_prover.specs.declared.note.ProverOutcome.{ProverOutcome}
 use Rattle.session_prover.specs.declared.note.ProverOutcome.TheVariants as ended
 use Rattle.command_words.specs.BitWords.{Bits}
-use Rattle.command_words.specs.Words.{Ask, ProveAsk, ServeManyAsk}
-use Rattle.command_words.specs.declared.asks.Ask.TheVariants.{Rehearse as rehearse, Generate as generate, Eval as eval, Deal as deal, Serve as serve, ServeMany as serve_many, Prove as prove, Audit as audit, Migrate as migrate, Status as status}
+use Rattle.command_words.specs.Words.{Ask, ProveAsk, RehearseArithAsk, ServeManyAsk}
+use Rattle.command_words.specs.declared.asks.Ask.TheVariants.{Rehearse as rehearse, Generate as generate, RehearseArith as rehearse_arith, Eval as eval, Deal as deal, Serve as serve, ServeMany as serve_many, Prove as prove, Audit as audit, Migrate as migrate, Status as status}
 use Rattle.statement_file.specs.Services.{Service, service_asked}
 use Rattle.file_commands.specs.Effects.{DoorChange, Effects, ShelfChange}
 use Rattle.file_commands.specs.Journals.{DiskChange}
 use Rattle.file_commands.specs.Stops.{IsOfStop, StatusMeans, stop_status}
 use Rattle.file_commands.specs.declared.refusal.Refusal.{Refusal}
 use Rattle.file_commands.specs.declared.refusal.Refusal.TheVariants as stop
+use Rattle.zk_cli.specs.ArithRuns.{ArithMeans, ArithRehearseStop}
 use Rattle.zk_cli.specs.ManyRuns.{ServesMany, StatementsStop}
 use Rattle.zk_cli.specs.Meets.{Meets}
 use Rattle.zk_cli.specs.ProveRuns.{ProveMeans, ProveStop, proved_status}
 use Rattle.zk_cli.specs.Runs.{Run}
 use Rattle.zk_cli.specs.ServeRuns.{ServeMeans, ServeStop}
 use Rattle.zk_cli.specs.declared.finish.Part.{Part}
-use Rattle.zk_cli.specs.declared.finish.Part.TheVariants.{Plain, Proved, Rehearsed, Served}
+use Rattle.zk_cli.specs.declared.finish.Part.TheVariants.{Plain, Proved, Rehearsed, RehearsedElements, Served}
 
 two_is_usage : (why : Refusal) → 2 ≡ stop_status why → why ≡ stop.Usage
 two_is_usage stop.Usage two = refl
@@ -36,6 +37,7 @@ two_is_usage (stop.TooLong limit) two = absurd (omega (arith, two))
 two_is_usage (stop.ManyPublic inputs got) two = absurd (omega (arith, two))
 two_is_usage (stop.WrongBits need got) two = absurd (omega (arith, two))
 two_is_usage (stop.WrongOutputs need got) two = absurd (omega (arith, two))
+two_is_usage (stop.BadElements fault) two = absurd (omega (arith, two))
 two_is_usage (stop.NotDealt unit) two = absurd (omega (arith, two))
 two_is_usage (stop.BadLog place) two = absurd (omega (arith, two))
 two_is_usage (stop.StatementLine line) two = absurd (omega (arith, two))
@@ -81,6 +83,7 @@ serve_two service Plain disk door run (inl stopped) two =
     stop_two (ServeStop service run.shelf disk door) run.status (serve_unused service run.shelf disk door) stopped two
 serve_two service Plain disk door run (inr seven) two = omega (arith, seven, two)
 serve_two service (Rehearsed r) disk door run means two = means
+serve_two service (RehearsedElements r) disk door run means two = means
 serve_two service (Proved note) disk door run means two = means
 
 many_two : {L : Type 0} (link_tells : L → LinkState) (ask : ServeManyAsk) (part : Part L) (disk : DiskChange) (door : DoorChange) (run : Effects)
@@ -127,7 +130,21 @@ prove_two ask Plain disk door run (inl stopped) two =
 prove_two ask Plain disk door run (inr (inl (four, failed))) two = omega (arith, four, two)
 prove_two ask Plain disk door run (inr (inr seven)) two = omega (arith, seven, two)
 prove_two ask (Rehearsed r) disk door run means two = means
+prove_two ask (RehearsedElements r) disk door run means two = means
 prove_two ask (Served notes) disk door run means two = means
+
+-- ---- rehearsals of arithmetic circuits
+
+arith_unused : (ask : RehearseArithAsk) (shelf : ShelfChange) → ArithRehearseStop ask shelf stop.Usage → ⊥
+arith_unused ask shelf (inl cause) = absurd cause
+arith_unused ask shelf (inr cause) = absurd cause.is
+
+arith_two : {L : Type 0} (ask : RehearseArithAsk) (part : Part L) (run : Effects) → ArithMeans ask part run → run.status ≡ 2 → ⊥
+arith_two ask part run (inl (zero_is, accepts)) two = omega (arith, zero_is, two)
+arith_two ask part run (inr (inl stopped)) two =
+    stop_two (ArithRehearseStop ask run.shelf) run.status (arith_unused ask run.shelf) stopped two
+arith_two ask part run (inr (inr (inl (four, failed)))) two = omega (arith, four, two)
+arith_two ask part run (inr (inr (inr seven))) two = omega (arith, seven, two)
 
 -- ---- any command
 
@@ -135,6 +152,7 @@ pub command_two : {F L B D : Type 0} (ask : Ask Bits) (seed : List ℕ) (disk : 
     → run.effects.status ≡ 2 → ⊥
 command_two (rehearse ask) seed disk run meets two = means_two _ _ _ run.effects meets.0.means two
 command_two (generate ask) seed disk run meets two = means_two _ _ _ run.effects meets.0.means two
+command_two (rehearse_arith ask) seed disk run meets two = arith_two ask run.part run.effects meets.0.means two
 command_two (eval ask) seed disk run meets two = means_two _ _ _ run.effects meets.0.means two
 command_two (deal ask) seed disk run meets two = means_two _ _ _ run.effects meets.0.means two
 command_two (audit ask) seed disk run meets two = elim meets.0.means [

@@ -34,7 +34,7 @@ use Rattle.file_commands.specs.Stops.{ConnectStop, PrintsMade, stop_line, stop_s
 use Rattle.zk_cli.specs.ProveRuns.{OfProved, ProveLines, ProveMeans, Proves, ProveStop, WiresStop, WitnessStop, proved_line, proved_status}
 use Rattle.file_commands.specs.Effects.{ShelfChange, DoorChange, Effects, NameFailed, OnlyLoads, IsDone}
 use Rattle.zk_cli.specs.declared.finish.Part.{Part}
-use Rattle.zk_cli.specs.declared.finish.Part.TheVariants.{Plain, Proved, Rehearsed, Served}
+use Rattle.zk_cli.specs.declared.finish.Part.TheVariants.{Plain, Proved, Rehearsed, RehearsedElements, Served}
 use Rattle.file_commands.specs.declared.refusal.Refusal.{Refusal}
 use Rattle.file_commands.specs.declared.refusal.Refusal.TheVariants as stop
 use Rattle.file_commands.proofs.Causes.{circuit_lacks, file_7, sound_7, told_circuit}
@@ -80,6 +80,7 @@ prove_means link_tells ask Plain disk door run says = elim (any_answers (stop_st
   | inr other ↦ inr other
 ]
 prove_means link_tells ask (Rehearsed r) disk door run says = absurd says
+prove_means link_tells ask (RehearsedElements r) disk door run says = absurd says
 prove_means link_tells ask (Served notes) disk door run says = absurd says
 
 -- ---- why a run stops: for want of memory alone
@@ -247,6 +248,7 @@ prove_is_done link_tells one law ask Plain disk door run says means ready calm h
   | inr other ↦ (elim other [ inl failed ↦ absurd (calm (inl (inr failed.1))) | inr seven ↦ inr seven ])
 ]
 prove_is_done link_tells one law ask (Rehearsed r) disk door run says means ready calm honest = absurd says
+prove_is_done link_tells one law ask (RehearsedElements r) disk door run says means ready calm honest = absurd says
 prove_is_done link_tells one law ask (Served notes) disk door run says means ready calm honest = absurd says
 
 pub proves : {L : Type 0} (link_tells : L → LinkState) → OneCircuit → ClaimsStartAgain → (ask : ProveAsk Bits) (part : Part L) (disk : DiskChange)

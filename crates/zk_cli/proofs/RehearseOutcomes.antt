@@ -1,5 +1,5 @@
 -- What is handed back and said of a rehearsal gives what its record promises.
-use Rattle.std.proofs.Common.{◌≡◌, ◌⊎◌, ◌<◌, ◌≤◌, ◌-◌, ◌++◌, ℕ, List, length, refl, ap, sym, ◌∙◌, subst, inl, inr, arith, []}
+use Rattle.std.proofs.Common.{◌≡◌, ◌⊎◌, ◌<◌, ◌≤◌, ◌-◌, ◌++◌, ℕ, Bool, List, length, refl, ap, sym, ◌∙◌, subst, inl, inr, arith, []}
 use Rattle.std.proofs.lemmas.List.{length-append}
 use Rattle.zk_model.specs.Circuit.{Circuit}
 use Rattle.zk_model.specs.declared.limits.TheConstants.{MAX_UNITS}
@@ -12,7 +12,7 @@ use Rattle.zk_cli.specs.RehearseRuns.{Rehearses, RehearseStop, Accepts, AnswersF
 use Rattle.file_commands.specs.Effects.{ShelfChange, Effects, OnlyLoads, IsName, HasFailed, NameFailed, SinkFailed}
 use Rattle.file_commands.specs.Stops.{CircuitStop, IsOfStop, IsCircuitReady, PrintsMade, StatusMeans, stop_status, SaysStop}
 use Rattle.zk_cli.specs.declared.finish.Part.{Part}
-use Rattle.zk_cli.specs.declared.finish.Part.TheVariants.{Plain, Proved, Rehearsed, Served}
+use Rattle.zk_cli.specs.declared.finish.Part.TheVariants.{Plain, Proved, Rehearsed, RehearsedElements, Served}
 use Rattle.file_commands.specs.declared.refusal.Refusal.{Refusal}
 use Rattle.file_commands.specs.declared.refusal.Refusal.TheVariants as stop
 use Rattle.file_commands.proofs.Causes.{told_circuit, circuit_lacks}
@@ -35,8 +35,8 @@ abbrev Means : {L : Type 0} → RehearseAsk Bits → Part L → Effects → Type
 Means ask part run = StatusMeans (Accepts part run.sink) (RehearseStop ask run.shelf) (IsName ask.circuit) run
 
 -- what the status says of any rehearsal that is accepted, and of a stop
-rehearsal_means : {L : Type 0} (Is : Rehearsal → Type 0) (Stops : Refusal → Type 0) (IsNamed : List ℕ → Type 0) (part : Part L) (run : Effects)
-    → ((r : Rehearsal) → Is r → (r.verdict ≡ Accepted) × EndsWithVerdict r.verdict r.log)
+rehearsal_means : {L : Type 0} (Is : Rehearsal (List Bool) → Type 0) (Stops : Refusal → Type 0) (IsNamed : List ℕ → Type 0) (part : Part L) (run : Effects)
+    → ((r : Rehearsal (List Bool)) → Is r → (r.verdict ≡ Accepted) × EndsWithVerdict r.verdict r.log)
     → (SaysStop Stops run → StatusMeans (Accepts {L = L} Plain run.sink) Stops IsNamed run)
     → SaysRehearsal Is Stops part run → StatusMeans (Accepts part run.sink) Stops IsNamed run
 rehearsal_means {L} Is Stops IsNamed (Rehearsed r) run accepts stops lines =
@@ -47,12 +47,13 @@ rehearsal_means {L} Is Stops IsNamed (Rehearsed r) run accepts stops lines =
 rehearsal_means Is Stops IsNamed Plain run accepts stops lines = stops lines
 rehearsal_means Is Stops IsNamed (Served notes) run accepts stops lines = absurd lines
 rehearsal_means Is Stops IsNamed (Proved note) run accepts stops lines = absurd lines
+rehearsal_means Is Stops IsNamed (RehearsedElements r) run accepts stops lines = absurd lines
 
 means : {L : Type 0} (ask : RehearseAsk Bits) (seed : List ℕ) (part : Part L) (run : Effects) → Lines ask seed part run
     → Means ask part run
 means {L} ask seed part run lines =
     rehearsal_means (IsRehearsed run.shelf.old.told ask seed) (RehearseStop ask run.shelf) (IsName ask.circuit) part run
-    (λ r is. (is.is.accepted, is.is.ends))
+    (λ r is. (is.is.about.accepted, is.is.about.ends))
     (stop_means (Accepts {L = L} Plain run.sink) (RehearseStop ask run.shelf) (IsName ask.circuit) run
     (λ cause. cause) (λ cause. cause) (λ count cause. cause) (λ output cause. cause) (λ failed. (ask.circuit, refl, failed))) lines
 
@@ -91,10 +92,11 @@ few_units : {L : Type 0} → OneCircuit → (ask : RehearseAsk Bits) (seed : Lis
 few_units one ask seed (Rehearsed r) run circuit ready lines accepts =
     let made = lines.0 in
     let same = told_circuit one run.shelf.old.told ask.circuit circuit made.circuit ready.tells ready.file made.file in
-    subst (λ c. rehearsal_units c ask.public ask.kind ask.section ≤ MAX_UNITS) same (subst (λ n. n ≤ MAX_UNITS) made.is.units made.is.units_most)
+    subst (λ c. rehearsal_units c ask.public ask.kind ask.section ≤ MAX_UNITS) same (subst (λ n. n ≤ MAX_UNITS) made.is.about.units made.is.about.units_most)
 few_units one ask seed Plain run circuit ready lines accepts = absurd accepts
 few_units one ask seed (Served notes) run circuit ready lines accepts = absurd accepts
 few_units one ask seed (Proved note) run circuit ready lines accepts = absurd accepts
+few_units one ask seed (RehearsedElements r) run circuit ready lines accepts = absurd lines
 
 done : {L : Type 0} → OneCircuit → (ask : RehearseAsk Bits) (seed : List ℕ) (part : Part L) (run : Effects) (circuit : Circuit)
     → Lines ask seed part run → IsCircuitReady run.shelf.old.told ask.circuit (ask.public ++ ask.bits) circuit → ¬ HasFailed (IsName ask.circuit) run
@@ -138,10 +140,11 @@ rehearses one ask seed part run lines kept =
 generated_units : {L : Type 0} (ask : GenerateAsk) (seed : List ℕ) (part : Part L) (run : Effects)
     → SaysRehearsal (IsGenerated ask seed) (GenerateStop ask) part run → Accepts part run.sink
     → rehearsal_units (generated_circuit ask.gates ask.number) [] ask.kind ask.section ≤ MAX_UNITS
-generated_units ask seed (Rehearsed r) run lines accepts = subst (λ n. n ≤ MAX_UNITS) lines.0.units lines.0.units_most
+generated_units ask seed (Rehearsed r) run lines accepts = subst (λ n. n ≤ MAX_UNITS) lines.0.about.units lines.0.about.units_most
 generated_units ask seed Plain run lines accepts = absurd accepts
 generated_units ask seed (Served notes) run lines accepts = absurd accepts
 generated_units ask seed (Proved note) run lines accepts = absurd accepts
+generated_units ask seed (RehearsedElements r) run lines accepts = absurd lines
 
 -- it stops for want of memory, or since it takes too many units
 generated_lacks : (ask : GenerateAsk) (why : Refusal) → GenerateStop ask why
@@ -174,7 +177,7 @@ pub generates : {L : Type 0} (ask : GenerateAsk) (seed : List ℕ) (part : Part 
     → SaysRehearsal (IsGenerated ask seed) (GenerateStop ask) part run → run.shelf.new ≡ run.shelf.old → Generates ask seed part run
 generates {L} ask seed part run lines kept =
     let all : StatusMeans (Accepts part run.sink) (GenerateStop ask) (λ name. ⊥) run =
-    rehearsal_means (IsGenerated ask seed) (GenerateStop ask) (λ name. ⊥) part run (λ r is. (is.accepted, is.ends))
+    rehearsal_means (IsGenerated ask seed) (GenerateStop ask) (λ name. ⊥) part run (λ r is. (is.about.accepted, is.about.ends))
     (stop_means (Accepts {L = L} Plain run.sink) (GenerateStop ask) (λ name. ⊥) run
     (λ cause. cause) (λ cause. cause) (λ count cause. cause) (λ output cause. cause) (λ failed. absurd failed)) lines in
     record { lines = lines; kept = kept; means = all; done = λ calm. generated_done ask seed part run lines calm all }

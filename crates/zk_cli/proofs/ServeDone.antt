@@ -40,7 +40,7 @@ use Rattle.file_commands.specs.Stops.{HasCircuit, ListenStop, stop_status}
 use Rattle.zk_cli.specs.ServeRuns.{IsServable, HasServeFailed, IsWithHonestProver, NotesMean, ServeMeans, Serves}
 use Rattle.session_verifier.specs.ServiceLogs.{IsLogName}
 use Rattle.zk_cli.specs.declared.finish.Part.{Part}
-use Rattle.zk_cli.specs.declared.finish.Part.TheVariants.{Plain, Proved, Rehearsed, Served}
+use Rattle.zk_cli.specs.declared.finish.Part.TheVariants.{Plain, Proved, Rehearsed, RehearsedElements, Served}
 use Rattle.file_commands.specs.declared.refusal.Refusal.{Refusal}
 use Rattle.file_commands.specs.declared.refusal.Refusal.TheVariants as stop
 use Rattle.file_commands.proofs.Causes.{claim_lacks, file_7, sound_7}
@@ -241,6 +241,7 @@ serve_is_done link_tells one law service Plain disk door run says means ready ca
   | inr seven ↦ inr seven
 ]
 serve_is_done link_tells one law service (Rehearsed r) disk door run says means ready calm honest = absurd says
+serve_is_done link_tells one law service (RehearsedElements r) disk door run says means ready calm honest = absurd says
 serve_is_done link_tells one law service (Proved note) disk door run says means ready calm honest = absurd says
 
 pub serves : {L : Type 0} (link_tells : L → LinkState) → OneCircuit → CeilingsStartAgain → (service : Service) (part : Part L) (disk : DiskChange) (door : DoorChange)

@@ -5,3 +5,4 @@ pub mod Runs
 pub mod ServeRuns
 pub mod ServedNotes
 pub mod ProveRuns
+pub mod ArithRuns

@@ -3,7 +3,7 @@ use Rattle.std.specs.Prelude.{◌≡◌, ◌⊎◌, ℕ, List, Bool, false, Opti
 use Rattle.statement_file.specs.Services.{service_asked}
 use Rattle.command_words.specs.BitWords.{Bits, BitsAsk}
 use Rattle.command_words.specs.Words.{Ask}
-use Rattle.command_words.specs.declared.asks.Ask.TheVariants.{Rehearse as rehearse, Eval as eval, Deal as deal, Serve as serve, ServeMany as serve_many, Prove as prove, Generate as generate, Audit as audit, Migrate as migrate, Status as status}
+use Rattle.command_words.specs.declared.asks.Ask.TheVariants.{Rehearse as rehearse, Eval as eval, Deal as deal, Serve as serve, ServeMany as serve_many, Prove as prove, Generate as generate, RehearseArith as rehearse_arith, Audit as audit, Migrate as migrate, Status as status}
 use Rattle.proof_audit.specs.AuditRuns.{Audits}
 use Rattle.file_commands.specs.DealRuns.{Deals}
 use Rattle.file_commands.specs.Effects.{OnlyLoads}
@@ -11,6 +11,7 @@ use Rattle.file_commands.specs.GivenBits.{GivenStop, IsAskGiven, IsGivenName}
 use Rattle.file_commands.specs.EvalRuns.{Evaluates}
 use Rattle.file_commands.specs.MigrateRuns.{Migrates}
 use Rattle.zk_cli.specs.ProveRuns.{Proves}
+use Rattle.zk_cli.specs.ArithRuns.{RehearsesArith}
 use Rattle.zk_cli.specs.RehearseRuns.{Rehearses, Generates}
 use Rattle.file_commands.specs.Journals.{DiskChange}
 use Rattle.status_command.specs.StatusRuns.{Reports}
@@ -41,6 +42,7 @@ pub record SaysUsage {F L B D : Type 0} (run : Run F L B D) : Type 0 where
 abbrev pub Meets : {F L B D : Type 0} → Ask Bits → List ℕ → DiskChange → Run F L B D → Type 0
 Meets (rehearse ask) seed disk run = Rehearses ask seed run.part run.effects × IsLocal run
 Meets (generate ask) seed disk run = Generates ask seed run.part run.effects × IsLocal run
+Meets (rehearse_arith ask) seed disk run = RehearsesArith ask seed run.part run.effects × IsLocal run
 Meets (eval ask) seed disk run = Evaluates ask run.effects × (run.part ≡ Plain) × IsLocal run
 Meets (deal ask) seed disk run = Deals ask seed run.effects × (run.part ≡ Plain) × IsLocal run
 Meets (audit ask) seed disk run = Audits ask run.effects × (run.part ≡ Plain) × IsLocal run

@@ -56,10 +56,9 @@ pub record IsWitnessed (told : Option Files) (ask : ProveAsk Bits) (circuit : Ci
   pub witness : (file : ProverFile)
       → IsWitness statement (map from_bit ask.bits) (map from_bit wires) (prover_of statement wires file).given
 
--- there are such a circuit and such bits, and with these values of the inputs a prover has the given values that the bits make
-pub record HasWitness (told : Option Files) (ask : ProveAsk Bits) (statement : Statement) (inputs : List ℕ) : Type 0 where
+-- there is such a circuit, these are its bits, and with these values of the inputs a prover has the given values that the bits make
+pub record HasWitness (told : Option Files) (ask : ProveAsk Bits) (statement : Statement) (inputs : List ℕ) (wires : List Bool) : Type 0 where
   pub circuit : Circuit
-  pub wires : List Bool
   pub witnessed : IsWitnessed told ask circuit statement wires
   pub proves : (file : ProverFile) → prover_from statement inputs file ≡ prover_of statement wires file
 

@@ -1,5 +1,5 @@
 -- `rehearse CIRCUIT BITS [--section G] [--extended] [--public BITS]`: what it hands back and says, and what it promises of its run.
-use Rattle.std.specs.Prelude.{◌≡◌, ◌⊎◌, ◌<◌, ◌≤◌, ℕ, List, ◌++◌, codes, length, Option, []}
+use Rattle.std.specs.Prelude.{◌≡◌, ◌⊎◌, ◌<◌, ◌≤◌, ℕ, List, ◌++◌, codes, length, Bool, Option, []}
 use Rattle.std.specs.Fmt.{decimal}
 use Rattle.zk_model.specs.Circuit.{Circuit}
 use Rattle.zk_model.specs.declared.Verdict.{Verdict}
@@ -10,13 +10,14 @@ use Rattle.command_words.specs.BitWords.{Bits}
 use Rattle.command_words.specs.BitWords.{bits_word}
 use Rattle.command_words.specs.Words.{RehearseAsk}
 use Rattle.command_words.specs.declared.asks.GenerateAsk.{GenerateAsk}
+use Rattle.element_file.specs.Elements.{elements_word}
 use Rattle.session_rehearsal.specs.Rehearsals.{IsRehearsalOf, IsWrongLength, IsRehearsalTooLarge, EndsWithVerdict}
 use Rattle.session_rehearsal.specs.Rehearsals.{rehearsal_units}
 use Rattle.session_rehearsal.specs.declared.rehearsal.Rehearsal.{Rehearsal}
 use Rattle.file_commands.specs.Effects.{ShelfChange, SinkChange, Effects, OnlyLoads, IsName, HasFailed, SinkFailed}
 use Rattle.file_commands.specs.Stops.{PrintsMade, WritesAll, SaysStop, StatusMeans, HasCircuit, HasFewInputs, IsCircuitReady, CircuitStop}
 use Rattle.zk_cli.specs.declared.finish.Part.{Part}
-use Rattle.zk_cli.specs.declared.finish.Part.TheVariants.{Plain, Rehearsed}
+use Rattle.zk_cli.specs.declared.finish.Part.TheVariants.{Plain, Rehearsed, RehearsedElements}
 use Rattle.file_commands.specs.declared.refusal.Refusal.{Refusal}
 use Rattle.file_commands.specs.declared.refusal.Refusal.TheVariants.{ManyPublic, WrongBits, TooLarge, NoMemory}
 use Rattle.circuit_gen.specs.Generated.{generated_bits, generated_circuit}
@@ -33,20 +34,27 @@ verdict_line Accepted = codes "accepted\n"
 verdict_line (RejectedSum section) = codes "rejected sum " ++ decimal section ++ codes "\n"
 verdict_line (RejectedOpening output) = codes "rejected opening " ++ decimal output ++ codes "\n"
 
--- what a session takes
-abbrev pub counts_line : Rehearsal → List ℕ
-counts_line r =
-    codes "products " ++ decimal r.products ++ codes " sections " ++ decimal r.sections
-    ++ codes " correlations " ++ decimal r.need ++ codes " units " ++ decimal r.units ++ codes "\n"
+-- what a session takes: so many products, in so many sections, and so many correlations and units
+abbrev pub numbers_line : ℕ → ℕ → ℕ → ℕ → List ℕ
+numbers_line products sections need units =
+    codes "products " ++ decimal products ++ codes " sections " ++ decimal sections
+    ++ codes " correlations " ++ decimal need ++ codes " units " ++ decimal units ++ codes "\n"
 
--- the outputs, the numbers and the verdict, a line each
-abbrev pub rehearsal_lines : Rehearsal → List ℕ
-rehearsal_lines r =
-    codes "outputs " ++ bits_word r.outputs ++ codes "\n" ++ counts_line r ++ verdict_line r.verdict
+-- the outputs, which are written so, the numbers and the verdict, a line each
+abbrev pub lines_with : {O : Type 0} → List ℕ → Rehearsal O → List ℕ
+lines_with outputs r =
+    codes "outputs " ++ outputs ++ codes "\n" ++ numbers_line r.products r.sections r.need r.units ++ verdict_line r.verdict
+
+abbrev pub rehearsal_lines : Rehearsal (List Bool) → List ℕ
+rehearsal_lines r = lines_with (bits_word r.outputs) r
+
+-- the same of an arithmetic circuit
+abbrev pub arith_lines : Rehearsal (List ℕ) → List ℕ
+arith_lines r = lines_with (elements_word r.outputs) r
 
 -- this is a rehearsal of the circuit under the name: its outputs are the only ones at the bits, its numbers are the
 -- defined ones, and its log is that of an honest session over the files of the seed
-abbrev pub IsRehearsed : Option Files → RehearseAsk Bits → List ℕ → Rehearsal → Type 0
+abbrev pub IsRehearsed : Option Files → RehearseAsk Bits → List ℕ → Rehearsal (List Bool) → Type 0
 IsRehearsed told ask seed r =
     HasCircuit told ask.circuit (λ circuit. IsRehearsalOf circuit ask.public ask.bits ask.kind ask.section seed r)
 
@@ -62,7 +70,7 @@ RehearseStop ask shelf (TooLarge need units) =
 RehearseStop ask shelf stop = CircuitStop ask.circuit shelf stop
 
 -- such a rehearsal is handed back, and its lines are written; or nothing is, and the line of a stop is, which has its cause
-abbrev pub SaysRehearsal : {L : Type 0} → (Rehearsal → Type 0) → (Refusal → Type 0) → Part L → Effects → Type 0
+abbrev pub SaysRehearsal : {L : Type 0} → (Rehearsal (List Bool) → Type 0) → (Refusal → Type 0) → Part L → Effects → Type 0
 SaysRehearsal Is Stops (Rehearsed r) run =
     Is r × PrintsMade (verdict_status r.verdict) (rehearsal_lines r) run.status run.sink
 SaysRehearsal Is Stops Plain run = SaysStop Stops run
@@ -72,6 +80,8 @@ SaysRehearsal Is Stops part run = ⊥
 abbrev pub Accepts : {L : Type 0} → Part L → SinkChange → Type 0
 Accepts (Rehearsed r) sink =
     (r.verdict ≡ Accepted) × EndsWithVerdict Accepted r.log × WritesAll (rehearsal_lines r) sink
+Accepts (RehearsedElements r) sink =
+    (r.verdict ≡ Accepted) × EndsWithVerdict Accepted r.log × WritesAll (arith_lines r) sink
 Accepts part sink = ⊥
 
 -- memory aside, a session that takes so many units is rehearsed and accepted exactly where they are at most 4,096
@@ -92,7 +102,7 @@ pub record Rehearses {L : Type 0} (ask : RehearseAsk Bits) (seed : List ℕ) (pa
 -- ---- `rehearse --gates N --number S [--section G] [--extended]`: of a circuit that is drawn from a number, at its input bits
 
 -- this is a rehearsal of that circuit
-abbrev pub IsGenerated : GenerateAsk → List ℕ → Rehearsal → Type 0
+abbrev pub IsGenerated : GenerateAsk → List ℕ → Rehearsal (List Bool) → Type 0
 IsGenerated ask seed r = IsRehearsalOf (generated_circuit ask.gates ask.number) [] (generated_bits ask.number) ask.kind ask.section seed r
 
 -- why there is none: it takes too many units, or memory is missing

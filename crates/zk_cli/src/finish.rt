@@ -3,7 +3,7 @@ ghost use Rattle.std.specs.Prelude.{◌≡◌};
 ghost use Rattle.zk_cli.specs.declared.finish.Part.TheVariants.{Plain};
 
 use session_prover::ProverNote;
-use session_rehearsal::Rehearsal;
+use session_rehearsal::{Bits, Elements, Rehearsal};
 use session_verifier::SessionNote;
 use zk_port::Door;
 
@@ -12,8 +12,10 @@ use zk_port::Door;
 pub enum Part<L> {
     /// Nothing.
     Plain,
-    /// What a rehearsal gave.
-    Rehearsed(Rehearsal),
+    /// What a rehearsal gave of a Boolean circuit.
+    Rehearsed(Rehearsal<Bits>),
+    /// What a rehearsal gave of an arithmetic one.
+    RehearsedElements(Rehearsal<Elements>),
     /// What came of a session with a verifier: exactly where the door connected.
     Proved(ProverNote<L>),
     /// What came of the sessions with the peers that called, in order: exactly where the door listened.

@@ -11,7 +11,7 @@ use bristol_reader::{ReadError, read};
 use circuit_gen::{Generated, generate};
 use command_words::GenerateAsk;
 use file_commands::{Refusal, say_stop};
-use session_rehearsal::{Rehearsal, RehearseFault, rehearse};
+use session_rehearsal::{Bits, Rehearsal, RehearseFault, rehearse};
 use std::alloc::Global;
 use std::thread::Threads;
 use zk_port::{Shelf, Sink};
@@ -22,7 +22,7 @@ fn rehearse_generated<R: Threads + Sync>(
     alloc: Global,
     ask: &GenerateAsk,
     seed: &[u8; 32],
-) -> Result<Rehearsal, Refusal>
+) -> Result<Rehearsal<Bits>, Refusal>
     requires some_gates { 1 ≤ ask.now.gates }
     requires few_gates { ask.now.gates ≤ MAX_GENERATED_GATES }
     requires at_least_one { 1 ≤ ask.now.section }

@@ -6,6 +6,7 @@
 //! statements. What is kept and said of sessions is in `session_verifier`.
 #![tactic(auto)]
 
+mod arith_rehearse_command;
 mod claim_files;
 mod finish;
 mod follow;
@@ -22,5 +23,5 @@ mod watched;
 pub use file_commands::Refusal;
 pub use finish::{Finish, Part};
 pub use run::run_zk;
-pub use session_rehearsal::{Bits, Rehearsal, RehearseFault, Verdict};
+pub use session_rehearsal::{Bits, Elements, Rehearsal, RehearseFault, Verdict};
 pub use zk_model::FILE_LIMIT;

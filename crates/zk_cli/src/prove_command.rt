@@ -28,11 +28,12 @@ use std::alloc::{AllocError, Global};
 use std::thread::Threads;
 use zk_port::{Access, Disk, Door, PortFault, Shelf, Sink};
 
-/// A claim, and the values of the inputs that prove it.
+/// A claim, the values of the inputs that prove it, and the bits of all wires then.
 #[derive(Drop)]
 struct Witness {
     claim: CircuitClaim,
     inputs: Vec<Fe>,
+    wires: Vec<bool>,
 }
 
 /// The first place where two lists of one length differ.
@@ -127,7 +128,8 @@ fn load_witness<R: Threads + Sync, F: Shelf>(
     ask: &ProveAsk<String, Vec<bool>>,
 ) -> Result<Witness, Refusal>
     ensures witness { IfOk result (λ w.
-        HasWitness (F.state shelf.old).told (prove_of known_bits ask.now) w.claim w.inputs.items) }
+        HasWitness (F.state shelf.old).told (prove_of known_bits ask.now) w.claim w.inputs.items
+        w.wires.items) }
     ensures inputs { IfOk result (λ w. length w.inputs.items ≡ w.claim.program.inputs) }
     ensures stop { IfErr result (WitnessStop (prove_of known_bits ask.now)
         (change (F.state shelf.old) (F.state shelf.new))) }
@@ -142,10 +144,13 @@ fn load_witness<R: Threads + Sync, F: Shelf>(
     drop(text);
     let ClaimedCircuit { circuit, digest } = claimed;
     let wires = satisfying_wires(alloc, &circuit, ask)?;
-    drop(wires);
     let claim = CircuitClaim::new(alloc, circuit, digest, &ask.public, &ask.outputs)?;
     let inputs = elements_of(alloc, &ask.bits)?;
-    Ok(Witness { claim, inputs })
+    Ok(Witness {
+        claim,
+        inputs,
+        wires,
+    })
 }
 
 /// Why there is no link.
@@ -194,7 +199,8 @@ fn load_all<R: Threads + Sync, F: Shelf>(
     ask: &ProveAsk<String, Vec<bool>>,
 ) -> Result<(Witness, ProverFile), Refusal>
     ensures witness { IfOk result (λ r.
-        HasWitness (F.state shelf.old).told (prove_of known_bits ask.now) r.0.claim r.0.inputs.items) }
+        HasWitness (F.state shelf.old).told (prove_of known_bits ask.now) r.0.claim r.0.inputs.items
+        r.0.wires.items) }
     ensures inputs { IfOk result (λ r. length r.0.inputs.items ≡ r.0.claim.program.inputs) }
     ensures file { IfOk result (λ r.
         IsProverFileAt (F.state shelf.old).told (string_bytes ask.now.file) r.1) }
@@ -234,7 +240,8 @@ fn prove_files<R: Threads + Sync, F: Shelf, D: Door, B: Disk>(
         Err(refusal) => return Err((refusal, journal)),
     };
     let statement = witness.claim.statement();
-    let job = ProverJob::new(&statement, &file, &witness.inputs);
+    let bits = Some(witness.wires.as_slice());
+    let job = ProverJob::with_bits(&statement, &file, &witness.inputs, bits);
     prove_job(rt, alloc, &job, ask, journal, door)
 }
 

@@ -3,7 +3,7 @@ ghost use Rattle.std.specs.Prelude.{◌≡◌, ◌≤◌, IfOk, IfErr, string_by
 ghost use Rattle.zk_model.specs.declared.limits.TheConstants.{MAX_SECTION_LENGTH};
 ghost use Rattle.zk_port.specs.Changes.{change};
 ghost use Rattle.command_words.specs.Commands.{known_bits, rehearse_of};
-ghost use Rattle.zk_cli.specs.RehearseRuns.{Rehearses, RehearseStop, IsRehearsed, counts_line, rehearsal_lines, verdict_line, verdict_status};
+ghost use Rattle.zk_cli.specs.RehearseRuns.{Rehearses, RehearseStop, IsRehearsed, lines_with, numbers_line, rehearsal_lines, verdict_line, verdict_status};
 ghost use Rattle.file_commands.specs.Effects.{OnlyLoads, IsName, effects};
 ghost use Rattle.file_commands.specs.Stops.{PrintsMade};
 
@@ -11,7 +11,7 @@ use crate::finish::{Ending, Part};
 use bristol_reader::one_circuit;
 use command_words::{RehearseAsk, write_bits};
 use file_commands::{Refusal, check_public, load_circuit, say, say_memory, say_stop};
-use session_rehearsal::{Rehearsal, RehearseFault, Verdict, rehearse};
+use session_rehearsal::{Bits, Rehearsal, RehearseFault, Verdict, rehearse};
 use std::alloc::{AllocError, Global};
 use std::thread::Threads;
 use zk_port::{Shelf, Sink};
@@ -23,7 +23,7 @@ fn rehearse_file<R: Threads + Sync, F: Shelf>(
     shelf: &mut F,
     ask: &RehearseAsk<String, Vec<bool>>,
     seed: &[u8; 32],
-) -> Result<Rehearsal, Refusal>
+) -> Result<Rehearsal<Bits>, Refusal>
     requires at_least_one { 1 ≤ ask.now.section }
     requires at_most { ask.now.section ≤ MAX_SECTION_LENGTH }
     ensures rehearsed { IfOk result
@@ -66,30 +66,44 @@ fn write_verdict(alloc: Global, verdict: Verdict) -> Result<String, AllocError>
 }
 
 /// The line of the numbers.
-fn write_counts(alloc: Global, rehearsal: &Rehearsal) -> Result<String, AllocError>
-    ensures { IfOk result (λ line. string_bytes line ≡ counts_line rehearsal.now) }
+fn write_counts(
+    alloc: Global,
+    products: u64,
+    sections: u64,
+    need: u64,
+    units: u64,
+) -> Result<String, AllocError>
+    ensures { IfOk result (λ line. string_bytes line ≡ numbers_line products sections need units) }
 {
-    let products = rehearsal.products;
-    let sections = rehearsal.sections;
-    let need = rehearsal.need;
-    let units = rehearsal.units;
     Ok(format!(in alloc;
         "products {products} sections {sections} correlations {need} units {units}\n"
     )?)
 }
 
-/// The lines of the rehearsal.
-fn write_rehearsal(alloc: Global, rehearsal: &Rehearsal) -> Result<String, AllocError>
-    ensures { IfOk result (λ lines. string_bytes lines ≡ rehearsal_lines rehearsal.now) }
+/// The lines of a rehearsal whose outputs are written so.
+pub(crate) fn write_rehearsal<O>(
+    alloc: Global,
+    outputs: &str,
+    rehearsal: &Rehearsal<O>,
+) -> Result<String, AllocError>
+    ensures { IfOk result (λ lines. string_bytes lines ≡ lines_with outputs.now rehearsal.now) }
 {
-    let outputs = write_bits(alloc, rehearsal.outputs.as_slice())?;
-    let counts = write_counts(alloc, rehearsal)?;
+    let (products, sections) = (rehearsal.products, rehearsal.sections);
+    let counts = write_counts(alloc, products, sections, rehearsal.need, rehearsal.units)?;
     let verdict = write_verdict(alloc, rehearsal.verdict)?;
     Ok(format!(in alloc; "outputs {outputs}\n{counts}{verdict}")?)
 }
 
+/// The lines of a rehearsal of a Boolean circuit.
+fn write_bits_rehearsal(alloc: Global, rehearsal: &Rehearsal<Bits>) -> Result<String, AllocError>
+    ensures { IfOk result (λ lines. string_bytes lines ≡ rehearsal_lines rehearsal.now) }
+{
+    let outputs = write_bits(alloc, rehearsal.outputs.as_slice())?;
+    write_rehearsal(alloc, &outputs, rehearsal)
+}
+
 /// The status of the verdict.
-fn status_of(verdict: Verdict) -> u8
+pub(crate) fn status_of(verdict: Verdict) -> u8
     ensures { result ≡ verdict_status verdict }
 {
     match verdict {
@@ -99,11 +113,11 @@ fn status_of(verdict: Verdict) -> u8
 }
 
 /// Says what came of the rehearsal, or that there is no memory for its lines, and answers the status.
-pub(crate) fn say_rehearsal<O: Sink>(alloc: Global, out: &mut O, rehearsal: &Rehearsal) -> u8
+pub(crate) fn say_rehearsal<O: Sink>(alloc: Global, out: &mut O, rehearsal: &Rehearsal<Bits>) -> u8
     ensures { PrintsMade (verdict_status rehearsal.now.verdict) (rehearsal_lines rehearsal.now) result
         (change (O.state out.old) (O.state out.new)) }
 {
-    match write_rehearsal(alloc, rehearsal) {
+    match write_bits_rehearsal(alloc, rehearsal) {
         Ok(lines) => say(alloc, out, lines.as_bytes(), status_of(rehearsal.verdict)),
         Err(_) => say_memory(alloc, out),
     }

@@ -9,6 +9,7 @@ ghost use Rattle.zk_cli.specs.Meets.{DoesGiven, GrantsOnceGiven, MeetsGiven, Pro
 ghost use Rattle.zk_cli.specs.Runs.{run_of};
 ghost use Rattle.file_commands.specs.Journals.{IsJournalDisk, disk_change};
 
+use crate::arith_rehearse_command::run_rehearse_arith;
 use crate::finish::{Finish, Ports};
 use crate::generate_command::run_generate;
 use crate::many_command::run_serve_many;
@@ -57,6 +58,9 @@ where
         Asks::Eval(ask) => ports.end(run_eval(alloc, shelf, out, &ask.circuit, &ask.bits)),
         Asks::Rehearse(ask) => ports.end_with(run_rehearse(rt, alloc, shelf, out, &ask, seed)),
         Asks::Generate(ask) => ports.end_with(run_generate(rt, alloc, shelf, out, &ask, seed)),
+        Asks::RehearseArith(ask) => {
+            ports.end_with(run_rehearse_arith(rt, alloc, shelf, out, &ask, seed))
+        }
         Asks::Serve(ask) => run_serve(rt, alloc, shelf, ports, out, notices, ask),
         Asks::ServeMany(ask) => run_serve_many(rt, alloc, shelf, ports, out, notices, ask),
         Asks::Prove(ask) => run_prove(rt, alloc, shelf, ports, out, &ask),
@@ -118,7 +122,8 @@ where
 /// [--extended] [--public BITS]` ends with 0 where it is accepted; 3 where the file, or the bits for it, are refused; 4
 /// where a load of the file failed, or the output before a 0; 7 where memory is missing; 9 where the session would take
 /// more than 4,096 units; and `rehearse --gates N --number S [--section G] [--extended]` with 0, 4, 7 and 9 in the same
-/// cases. `eval CIRCUIT BITS` ends with 0 where it wrote the outputs, and with 3, 4 and 7 in the same cases.
+/// cases. `rehearse-arith CIRCUIT VALUES [--section G] [--extended]` ends so too, with 4 where a load of either file failed, and with 1 where
+/// an assertion is not met. `eval CIRCUIT BITS` ends with 0 where it wrote the outputs, and with 3, 4 and 7 in the same cases.
 /// `deal NAME --units N [--trees T --height H --base K]` ends with 0 where all is stored and said, 4 where a store or
 /// the output failed, and 7. `serve ADDRESS FILE CIRCUIT OUTPUTS --sessions N [--workers W] [--section G] [--timeout S] [--logs PREFIX]
 /// [--follow] [--public BITS]` ends with 0 where each session is accepted, or no peer called; 1 where one is not; 3 where a file or

@@ -34,7 +34,6 @@ returns-clause-witness g c =
     (c.in_ok-claim.ensures ∙ (λ i. circuit_statement circuit c.in_ok-claimed.claimed.digest (c.deref-3.ensures.value i) (c.deref-4.ensures.value i)))
     (c.in_ok-claimed.ensures.digest ∙ ap sha256 c.deref-2.ensures.value) in record {
       circuit = circuit;
-      wires = wires;
       witnessed = record {
         claim = record {
           text = text;

@@ -1,6 +1,0 @@
-use Rattle.std.proofs.Common.{◌<◌, ◌^◌, take, true}
-use Rattle.bristol_reader.specs.Scans.{AreScanned}
-use Rattle.bristol_reader.proofs.lines.number_here.Given as goal
-
-abbrev pub invariant-loop-i : goal.invariant-loop-i
-invariant-loop-i g l = record { scanned : AreScanned (take l.i l.text) true l.value; small : l.value < 10 ^ l.i }
