@@ -150,6 +150,9 @@ fn offered_lines<R: Threads + Wait + Sync>(
     let others = [own];
     match VerifierJob::fit(before, file, section) {
         Ok(first) => {
+            if before.kind() != prover.statement().kind() {
+                return Err(Error::msg("circuits of two kinds"));
+            }
             let jobs = VerifierJobs::new(&first, &others);
             lines_of(rt, alloc, claimed, prover, &jobs)
         }
