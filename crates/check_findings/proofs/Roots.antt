@@ -1,6 +1,5 @@
 -- The polynomials in the key are not zero, and have as a root each key with which the equation holds.
-use Rattle.std.proofs.Common.{◌≡◌, ◌≢◌, ℕ, Bool, true, false, List, sym, subst, arith, lit<}
-use Rattle.zk_model.specs.Bits.{from_bit}
+use Rattle.std.proofs.Common.{◌≡◌, ◌≢◌, ℕ, List, sym, subst, arith}
 use Rattle.mersenne_field.proofs.FieldLaws.{minus-eq-zero}
 use Rattle.zk_model.specs.Field.{IsElement}
 use Rattle.zk_model.specs.Polynomial.{IsNonzero, IsRoot}
@@ -30,8 +29,3 @@ mac_root output mac claim polynomial value claimed differs is = record {
     roots = λ key meets. subst (λ (p : List ℕ). IsRoot p key) (sym is) (key_is_opening_root key output mac claim meets);
   };
 }
-
--- a bit is an element
-pub bit_element : (bit : Bool) → IsElement (from_bit bit)
-bit_element true = lit< tt
-bit_element false = lit< tt

@@ -47,7 +47,7 @@ pub record IsSumRoot
 
 -- what a section shows of which not every product is right
 abbrev pub ShowsSection : ℕ → List Triple → Pair → ℕ × ℕ → Finding → Type 0
-ShowsSection challenge triples mask sent (Inputs bits) = ⊥
+ShowsSection challenge triples mask sent (Inputs inputs) = ⊥
 ShowsSection challenge triples mask sent (ChallengeRoot section polynomial) =
     (section ≡ 0) × IsErrorRoot challenge triples polynomial.items
 ShowsSection challenge triples mask sent (KeyRoot polynomial) =
@@ -61,7 +61,7 @@ pub record IsMacRoot (output : Pair) (mac claim : ℕ) (polynomial : List ℕ) :
 
 -- what an opened wire shows that is not as claimed
 abbrev pub ShowsOpening : Pair → ℕ → ℕ → Finding → Type 0
-ShowsOpening output mac claim (Inputs bits) = ⊥
+ShowsOpening output mac claim (Inputs inputs) = ⊥
 ShowsOpening output mac claim (ChallengeRoot section polynomial) = ⊥
 ShowsOpening output mac claim (KeyRoot polynomial) = IsMacRoot output mac claim polynomial.items
 ShowsOpening output mac claim NotAccepted = ⊥

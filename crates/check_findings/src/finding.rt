@@ -1,6 +1,5 @@
 // What one section of products, or one opened wire, shows.
 ghost use Rattle.std.specs.Prelude.{◌≡◌, ◌↔◌, ◌∷◌, ℕ, map, IsNone, IfOk, IfSome};
-ghost use Rattle.zk_model.specs.Bits.{from_bit};
 ghost use Rattle.zk_model.specs.Field.{IsElement};
 ghost use Rattle.zk_model.specs.Polynomial.{IsZero};
 ghost use Rattle.zk_model.specs.Check.{error_polynomial, key_polynomial, opening_polynomial};
@@ -16,7 +15,7 @@ use wire_auth::Triple;
 #[derive(Debug, PartialEq, Eq, Drop)]
 pub enum Finding {
     /// Every product is right and every opened wire as claimed: these are the private inputs.
-    Inputs(Vec<bool>),
+    Inputs(Vec<Fe>),
     /// The errors of the first section with a wrong product, of which the challenge is a root.
     ChallengeRoot { section: u32, polynomial: Vec<Fe> },
     /// A polynomial of which the verifier's key is a root.
@@ -85,17 +84,17 @@ pub fn opening_finding(
     alloc: Global,
     output: Pair,
     mac: Fe,
-    claimed: bool,
+    claimed: Fe,
 ) -> Result<Option<Finding>, AllocError>
-    requires met { (key : ℕ) × IsElement key × OpeningMeets output mac (from_bit claimed) key }
-    ensures none { IfOk result (λ shown. IsNone shown ↔ output.x ≡ from_bit claimed) }
-    ensures some { IfOk result (λ shown. IfSome shown (ShowsOpening output mac (from_bit claimed))) }
+    requires met { (key : ℕ) × IsElement key × OpeningMeets output mac claimed key }
+    ensures none { IfOk result (λ shown. IsNone shown ↔ output.x ≡ claimed) }
+    ensures some { IfOk result (λ shown. IfSome shown (ShowsOpening output mac claimed)) }
 {
-    let claim = Fe::from_bit(claimed);
     let _element = output.x.value();
-    if output.x == claim {
+    let _claim = claimed.value();
+    if output.x == claimed {
         return Ok(None);
     }
-    let polynomial = Vec::from_array(alloc, [output.m - mac, output.x - claim])?;
+    let polynomial = Vec::from_array(alloc, [output.m - mac, output.x - claimed])?;
     Ok(Some(Finding::KeyRoot { polynomial }))
 }

@@ -12,7 +12,7 @@ use Rattle.command_words.specs.Found.{told}
 use Rattle.command_words.specs.Rows.{Row, ids_of, row_of}
 use Rattle.command_words.specs.Words.{name_of, names_of}
 use Rattle.command_words.specs.declared.table.Name.{Name}
-use Rattle.command_words.specs.declared.table.Name.TheVariants.{Rehearse, RehearseArith, Eval, Deal, Serve, ServeMany, Prove, Audit, Migrate, Status}
+use Rattle.command_words.specs.declared.table.Name.TheVariants.{Rehearse, RehearseArith, Eval, Deal, Serve, ServeMany, ServeArith, Prove, ProveArith, Audit, AuditArith, Migrate, Status}
 use Rattle.command_words.proofs.Rows.{same_text}
 use Rattle.command_words.proofs.Steps.{flag, place, valued}
 use Rattle.command_words.proofs.Walks.{KnowsName, KnowsNames, KnowsPlaces, are_apart, is_among, is_apart}
@@ -179,7 +179,10 @@ known_of Eval = known_row (row_of Eval) refl refl refl refl refl refl refl (λ r
 known_of Deal = known_row (row_of Deal) refl refl refl refl refl refl refl (λ rows. refl) refl refl refl refl refl refl refl refl refl refl refl
 known_of Serve = known_row (row_of Serve) refl refl refl refl refl refl refl (λ rows. refl) refl refl refl refl refl refl refl refl refl refl refl
 known_of ServeMany = known_row (row_of ServeMany) refl refl refl refl refl refl refl (λ rows. refl) refl refl refl refl refl refl refl refl refl refl refl
+known_of ServeArith = known_row (row_of ServeArith) refl refl refl refl refl refl refl (λ rows. refl) refl refl refl refl refl refl refl refl refl refl refl
 known_of Prove = known_row (row_of Prove) refl refl refl refl refl refl refl (λ rows. refl) refl refl refl refl refl refl refl refl refl refl refl
+known_of ProveArith = known_row (row_of ProveArith) refl refl refl refl refl refl refl (λ rows. refl) refl refl refl refl refl refl refl refl refl refl refl
 known_of Audit = known_row (row_of Audit) refl refl refl refl refl refl refl (λ rows. refl) refl refl refl refl refl refl refl refl refl refl refl
+known_of AuditArith = known_row (row_of AuditArith) refl refl refl refl refl refl refl (λ rows. refl) refl refl refl refl refl refl refl refl refl refl refl
 known_of Migrate = known_row (row_of Migrate) refl refl refl refl refl refl refl (λ rows. refl) refl refl refl refl refl refl refl refl refl refl refl
 known_of Status = known_row (row_of Status) refl refl refl refl refl refl refl (λ rows. refl) refl refl refl refl refl refl refl refl refl refl refl

@@ -3,22 +3,25 @@ use Rattle.std.specs.Prelude.{ℕ, ◌≤◌, Bool, String, Vec, string_bytes}
 use Rattle.std.specs.Option.{option_map}
 use Rattle.std.specs.declared.alloc.Global.{Global}
 use Rattle.zk_model.specs.Files.{AreParams}
-use Rattle.command_words.specs.Words.{Ask, AuditAsk, DealAsk, EvalAsk, MigrateAsk, ProveAsk, RehearseArithAsk, RehearseAsk, ServeAsk, ServeManyAsk, ServeOptions, StatusAsk}
-use Rattle.command_words.specs.Words.{audit_ask, deal_ask, eval_ask, migrate_ask, prove_ask, rehearse_arith_ask, rehearse_ask, serve_ask, serve_many_ask, serve_options, status_ask}
+use Rattle.command_words.specs.Words.{Ask, AuditArithAsk, AuditAsk, DealAsk, EvalAsk, MigrateAsk, ProveArithAsk, ProveAsk, RehearseArithAsk, RehearseAsk, ServeArithAsk, ServeAsk, ServeManyAsk, ServeOptions, StatusAsk}
+use Rattle.command_words.specs.Words.{audit_arith_ask, audit_ask, deal_ask, eval_ask, migrate_ask, prove_arith_ask, prove_ask, rehearse_arith_ask, rehearse_ask, serve_arith_ask, serve_ask, serve_many_ask, serve_options, status_ask}
 use Rattle.command_words.specs.BitWords.{Bits, BitsAsk, said, named}
 use Rattle.command_words.specs.declared.bits.BitsWord.{BitsWord}
 use Rattle.command_words.specs.declared.bits.BitsWord.TheVariants.{Said, Named}
 use Rattle.command_words.specs.declared.asks.Ask.{Ask as AskOf}
-use Rattle.command_words.specs.declared.asks.Ask.TheVariants.{Rehearse, Generate, RehearseArith, Eval, Deal, Serve, ServeMany, Prove, Audit, Migrate, Status}
+use Rattle.command_words.specs.declared.asks.Ask.TheVariants.{Rehearse, Generate, RehearseArith, Eval, Deal, Serve, ServeMany, ServeArith, Prove, ProveArith, Audit, AuditArith, Migrate, Status}
 use Rattle.command_words.specs.declared.asks.RehearseAsk.{RehearseAsk as RehearseAskOf}
 use Rattle.command_words.specs.declared.asks.RehearseArithAsk.{RehearseArithAsk as RehearseArithAskOf}
 use Rattle.command_words.specs.declared.asks.EvalAsk.{EvalAsk as EvalAskOf}
 use Rattle.command_words.specs.declared.asks.DealAsk.{DealAsk as DealAskOf}
 use Rattle.command_words.specs.declared.asks.ServeAsk.{ServeAsk as ServeAskOf}
 use Rattle.command_words.specs.declared.asks.ServeManyAsk.{ServeManyAsk as ServeManyAskOf}
+use Rattle.command_words.specs.declared.asks.ServeArithAsk.{ServeArithAsk as ServeArithAskOf}
 use Rattle.command_words.specs.declared.asks.ServeOptions.{ServeOptions as ServeOptionsOf}
 use Rattle.command_words.specs.declared.asks.ProveAsk.{ProveAsk as ProveAskOf}
+use Rattle.command_words.specs.declared.asks.ProveArithAsk.{ProveArithAsk as ProveArithAskOf}
 use Rattle.command_words.specs.declared.asks.AuditAsk.{AuditAsk as AuditAskOf}
+use Rattle.command_words.specs.declared.asks.AuditArithAsk.{AuditArithAsk as AuditArithAskOf}
 use Rattle.command_words.specs.declared.asks.MigrateAsk.{MigrateAsk as MigrateAskOf}
 use Rattle.command_words.specs.declared.asks.StatusAsk.{StatusAsk as StatusAskOf}
 use Rattle.command_words.specs.declared.asks.TheConstants.{MAX_SESSIONS, MAX_TIMEOUT}
@@ -67,15 +70,30 @@ serve_many_of ask =
     serve_many_ask (string_bytes ask.address) (string_bytes ask.file) (string_bytes ask.statements)
     (named_options ask.options)
 
+abbrev pub serve_arith_of : ServeArithAskOf (String Global) → ServeArithAsk
+serve_arith_of ask =
+    serve_arith_ask (string_bytes ask.address) (string_bytes ask.file) (string_bytes ask.circuit) (string_bytes ask.outputs)
+    (named_options ask.options)
+
 abbrev pub prove_of : {B C : Type 0} → (B → C) → ProveAskOf (String Global) B → ProveAsk C
 prove_of given ask =
     prove_ask (string_bytes ask.address) (string_bytes ask.file) (string_bytes ask.circuit) (given ask.public)
     (given ask.bits) (given ask.outputs) ask.timeout
 
+abbrev pub prove_arith_of : ProveArithAskOf (String Global) → ProveArithAsk
+prove_arith_of ask =
+    prove_arith_ask (string_bytes ask.address) (string_bytes ask.file) (string_bytes ask.circuit) (string_bytes ask.values)
+    (string_bytes ask.outputs) ask.timeout
+
 abbrev pub audit_of : {B C : Type 0} → (B → C) → AuditAskOf (String Global) B → AuditAsk C
 audit_of given ask =
     audit_ask (string_bytes ask.circuit) (given ask.public) (given ask.outputs) (string_bytes ask.prover)
     (string_bytes ask.verifier) (string_bytes ask.log)
+
+abbrev pub audit_arith_of : AuditArithAskOf (String Global) → AuditArithAsk
+audit_arith_of ask =
+    audit_arith_ask (string_bytes ask.circuit) (string_bytes ask.outputs) (string_bytes ask.prover) (string_bytes ask.verifier)
+    (string_bytes ask.log)
 
 abbrev pub migrate_of : MigrateAskOf (String Global) → MigrateAsk
 migrate_of ask = migrate_ask ask.side (string_bytes ask.file)
@@ -91,8 +109,11 @@ ask_of given (Eval ask) = Eval (eval_of given ask)
 ask_of given (Deal ask) = Deal (deal_of ask)
 ask_of given (Serve ask) = Serve (serve_of given ask)
 ask_of given (ServeMany ask) = ServeMany (serve_many_of ask)
+ask_of given (ServeArith ask) = ServeArith (serve_arith_of ask)
 ask_of given (Prove ask) = Prove (prove_of given ask)
+ask_of given (ProveArith ask) = ProveArith (prove_arith_of ask)
 ask_of given (Audit ask) = Audit (audit_of given ask)
+ask_of given (AuditArith ask) = AuditArith (audit_arith_of ask)
 ask_of given (Migrate ask) = Migrate (migrate_of ask)
 ask_of given (Status ask) = Status (status_of ask)
 
@@ -123,5 +144,7 @@ IsWithinLimits (RehearseArith ask) = IsSectionSize ask.section
 IsWithinLimits (Deal ask) = AreParams ask.params
 IsWithinLimits (Serve ask) = AreServeLimits (named_options ask.options)
 IsWithinLimits (ServeMany ask) = AreServeLimits (named_options ask.options)
+IsWithinLimits (ServeArith ask) = AreServeLimits (named_options ask.options)
 IsWithinLimits (Prove ask) = IsTimeout ask.timeout
+IsWithinLimits (ProveArith ask) = IsTimeout ask.timeout
 IsWithinLimits other = Unit {0}

@@ -15,7 +15,7 @@ use Rattle.command_words.specs.declared.table.Need.TheVariants.{Always, Optional
 use Rattle.command_words.specs.declared.table.Row.{Row as RowOf}
 use Rattle.command_words.specs.declared.table.WordKind.{WordKind}
 use Rattle.command_words.specs.declared.table.WordKind.TheVariants as k
-use Rattle.command_words.specs.declared.table.TheConstants.{REHEARSE, REHEARSE_ARITH, EVAL, DEAL, SERVE, SERVE_MANY, PROVE, AUDIT, MIGRATE, STATUS, NAMES}
+use Rattle.command_words.specs.declared.table.TheConstants.{REHEARSE, REHEARSE_ARITH, EVAL, DEAL, SERVE, SERVE_MANY, SERVE_ARITH, PROVE, PROVE_ARITH, AUDIT, AUDIT_ARITH, MIGRATE, STATUS, NAMES}
 
 -- ---- rows, with their texts as bytes
 
@@ -56,8 +56,11 @@ row_of n.Eval = row_said (λ t. t.now) (λ c. c.now) (λ f. f.now) EVAL
 row_of n.Deal = row_said (λ t. t.now) (λ c. c.now) (λ f. f.now) DEAL
 row_of n.Serve = row_said (λ t. t.now) (λ c. c.now) (λ f. f.now) SERVE
 row_of n.ServeMany = row_said (λ t. t.now) (λ c. c.now) (λ f. f.now) SERVE_MANY
+row_of n.ServeArith = row_said (λ t. t.now) (λ c. c.now) (λ f. f.now) SERVE_ARITH
 row_of n.Prove = row_said (λ t. t.now) (λ c. c.now) (λ f. f.now) PROVE
+row_of n.ProveArith = row_said (λ t. t.now) (λ c. c.now) (λ f. f.now) PROVE_ARITH
 row_of n.Audit = row_said (λ t. t.now) (λ c. c.now) (λ f. f.now) AUDIT
+row_of n.AuditArith = row_said (λ t. t.now) (λ c. c.now) (λ f. f.now) AUDIT_ARITH
 row_of n.Migrate = row_said (λ t. t.now) (λ c. c.now) (λ f. f.now) MIGRATE
 row_of n.Status = row_said (λ t. t.now) (λ c. c.now) (λ f. f.now) STATUS
 

@@ -23,9 +23,12 @@ use Rattle.command_words.specs.declared.asks.EvalAsk.{EvalAsk as EvalAskOf}
 use Rattle.command_words.specs.declared.asks.DealAsk.{DealAsk as DealAskOf}
 use Rattle.command_words.specs.declared.asks.ServeAsk.{ServeAsk as ServeAskOf}
 use Rattle.command_words.specs.declared.asks.ServeManyAsk.{ServeManyAsk as ServeManyAskOf}
+use Rattle.command_words.specs.declared.asks.ServeArithAsk.{ServeArithAsk as ServeArithAskOf}
 use Rattle.command_words.specs.declared.asks.ServeOptions.{ServeOptions as ServeOptionsOf}
 use Rattle.command_words.specs.declared.asks.ProveAsk.{ProveAsk as ProveAskOf}
+use Rattle.command_words.specs.declared.asks.ProveArithAsk.{ProveArithAsk as ProveArithAskOf}
 use Rattle.command_words.specs.declared.asks.AuditAsk.{AuditAsk as AuditAskOf}
+use Rattle.command_words.specs.declared.asks.AuditArithAsk.{AuditArithAsk as AuditArithAskOf}
 use Rattle.command_words.specs.declared.asks.MigrateAsk.{MigrateAsk as MigrateAskOf}
 use Rattle.command_words.specs.declared.asks.StatusAsk.{StatusAsk as StatusAskOf}
 use Rattle.command_words.specs.declared.table.Name.{Name}
@@ -90,6 +93,13 @@ abbrev pub serve_many_ask : List ℕ → List ℕ → List ℕ → ServeOptions 
 serve_many_ask address file statements options =
     record { address = address; file = file; statements = statements; options = options }
 
+abbrev pub ServeArithAsk : Type 0
+ServeArithAsk = ServeArithAskOf (List ℕ)
+
+abbrev pub serve_arith_ask : List ℕ → List ℕ → List ℕ → List ℕ → ServeOptions → ServeArithAsk
+serve_arith_ask address file circuit outputs options =
+    record { address = address; file = file; circuit = circuit; outputs = outputs; options = options }
+
 abbrev pub ProveAsk : Type 0 → Type 0
 ProveAsk B = ProveAskOf (List ℕ) B
 
@@ -97,12 +107,26 @@ abbrev pub prove_ask : {B : Type 0} → List ℕ → List ℕ → List ℕ → B
 prove_ask address file circuit public bits outputs timeout =
     record { address = address; file = file; circuit = circuit; public = public; bits = bits; outputs = outputs; timeout = timeout }
 
+abbrev pub ProveArithAsk : Type 0
+ProveArithAsk = ProveArithAskOf (List ℕ)
+
+abbrev pub prove_arith_ask : List ℕ → List ℕ → List ℕ → List ℕ → List ℕ → ℕ → ProveArithAsk
+prove_arith_ask address file circuit values outputs timeout =
+    record { address = address; file = file; circuit = circuit; values = values; outputs = outputs; timeout = timeout }
+
 abbrev pub AuditAsk : Type 0 → Type 0
 AuditAsk B = AuditAskOf (List ℕ) B
 
 abbrev pub audit_ask : {B : Type 0} → List ℕ → B → B → List ℕ → List ℕ → List ℕ → AuditAsk B
 audit_ask circuit public outputs prover verifier log =
     record { circuit = circuit; public = public; outputs = outputs; prover = prover; verifier = verifier; log = log }
+
+abbrev pub AuditArithAsk : Type 0
+AuditArithAsk = AuditArithAskOf (List ℕ)
+
+abbrev pub audit_arith_ask : List ℕ → List ℕ → List ℕ → List ℕ → List ℕ → AuditArithAsk
+audit_arith_ask circuit outputs prover verifier log =
+    record { circuit = circuit; outputs = outputs; prover = prover; verifier = verifier; log = log }
 
 abbrev pub MigrateAsk : Type 0
 MigrateAsk = MigrateAskOf (List ℕ)
@@ -174,15 +198,30 @@ abbrev pub serve_many_by : FromRow (row_of n.ServeMany) (Option (Ask BitsAsk))
 serve_many_by address file statements sessions workers section timeout logs follow =
     Some (a.ServeMany (serve_many_ask address file statements (serve_options sessions workers section timeout logs follow)))
 
+-- `serve-arith ADDRESS FILE CIRCUIT OUTPUTS --sessions N [--workers W] [--section G] [--timeout S] [--logs PREFIX] [--follow]`
+abbrev pub serve_arith_by : FromRow (row_of n.ServeArith) (Option (Ask BitsAsk))
+serve_arith_by address file circuit outputs sessions workers section timeout logs follow =
+    Some (a.ServeArith (serve_arith_ask address file circuit outputs (serve_options sessions workers section timeout logs follow)))
+
 -- `prove ADDRESS FILE CIRCUIT BITS OUTPUTS [--timeout S] [--public BITS]`
 abbrev pub prove_by : FromRow (row_of n.Prove) (Option (Ask BitsAsk))
 prove_by address file circuit bits outputs timeout public =
     Some (a.Prove (prove_ask address file circuit public bits outputs timeout))
 
+-- `prove-arith ADDRESS FILE CIRCUIT VALUES OUTPUTS [--timeout S]`
+abbrev pub prove_arith_by : FromRow (row_of n.ProveArith) (Option (Ask BitsAsk))
+prove_arith_by address file circuit values outputs timeout =
+    Some (a.ProveArith (prove_arith_ask address file circuit values outputs timeout))
+
 -- `audit CIRCUIT OUTPUTS PROVERFILE VERIFIERFILE LOG [--public BITS]`
 abbrev pub audit_by : FromRow (row_of n.Audit) (Option (Ask BitsAsk))
 audit_by circuit outputs prover verifier log public =
     Some (a.Audit (audit_ask circuit public outputs prover verifier log))
+
+-- `audit-arith CIRCUIT OUTPUTS PROVERFILE VERIFIERFILE LOG`
+abbrev pub audit_arith_by : FromRow (row_of n.AuditArith) (Option (Ask BitsAsk))
+audit_arith_by circuit outputs prover verifier log =
+    Some (a.AuditArith (audit_arith_ask circuit outputs prover verifier log))
 
 -- `migrate SIDE FILE`
 abbrev pub migrate_by : FromRow (row_of n.Migrate) (Option (Ask BitsAsk))
@@ -199,8 +238,11 @@ asks_by n.Eval = eval_by
 asks_by n.Deal = deal_by
 asks_by n.Serve = serve_by
 asks_by n.ServeMany = serve_many_by
+asks_by n.ServeArith = serve_arith_by
 asks_by n.Prove = prove_by
+asks_by n.ProveArith = prove_arith_by
 asks_by n.Audit = audit_by
+asks_by n.AuditArith = audit_arith_by
 asks_by n.Migrate = migrate_by
 asks_by n.Status = status_by
 

@@ -86,6 +86,17 @@ pub struct ServeManyAsk<T, S = T> {
     pub options: ServeOptions<T>,
 }
 
+/// A verifier that serves one statement about an arithmetic circuit: where provers connect, the verifier's file, the circuit's file, and
+/// that of the claimed outputs.
+#[derive(Debug, Drop)]
+pub struct ServeArithAsk<T> {
+    pub address: T,
+    pub file: T,
+    pub circuit: T,
+    pub outputs: T,
+    pub options: ServeOptions<T>,
+}
+
 /// A prover: where the verifier listens, the prover's file, the circuit's file, the public input bits and the private ones, the claimed
 /// outputs, and for how many seconds a silent peer is waited for.
 #[derive(Debug, Drop)]
@@ -99,12 +110,34 @@ pub struct ProveAsk<T, B> {
     pub timeout: u32,
 }
 
+/// A prover of a statement about an arithmetic circuit: where the verifier listens, the prover's file, the circuit's file, those of the input
+/// elements and of the claimed outputs, and for how many seconds a silent peer is waited for.
+#[derive(Debug, Drop)]
+pub struct ProveArithAsk<T> {
+    pub address: T,
+    pub file: T,
+    pub circuit: T,
+    pub values: T,
+    pub outputs: T,
+    pub timeout: u32,
+}
+
 /// An audit: the circuit's file, the public input bits, the claimed outputs, both dealt files, and a session's log.
 #[derive(Debug, Drop)]
 pub struct AuditAsk<T, B> {
     pub circuit: T,
     pub public: B,
     pub outputs: B,
+    pub prover: T,
+    pub verifier: T,
+    pub log: T,
+}
+
+/// An audit of a session about an arithmetic circuit: the circuit's file, that of the claimed outputs, both dealt files, and the log.
+#[derive(Debug, Drop)]
+pub struct AuditArithAsk<T> {
+    pub circuit: T,
+    pub outputs: T,
     pub prover: T,
     pub verifier: T,
     pub log: T,
@@ -134,8 +167,11 @@ pub enum Ask<T, B> {
     Deal(DealAsk<T>),
     Serve(ServeAsk<T, B>),
     ServeMany(ServeManyAsk<T>),
+    ServeArith(ServeArithAsk<T>),
     Prove(ProveAsk<T, B>),
+    ProveArith(ProveArithAsk<T>),
     Audit(AuditAsk<T, B>),
+    AuditArith(AuditArithAsk<T>),
     Migrate(MigrateAsk<T>),
     Status(StatusAsk<T>),
 }

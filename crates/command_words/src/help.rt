@@ -26,10 +26,17 @@ usage:
   zk serve-many ADDRESS FILE STATEMENTS --sessions N [--workers W] [--section G] [--timeout S] [--logs PREFIX]
            [--follow]
       the same, each prover about one of several statements
+  zk serve-arith ADDRESS FILE CIRCUIT OUTPUTS --sessions N [--workers W] [--section G] [--timeout S] [--logs PREFIX]
+           [--follow]
+      as `zk serve`, about an arithmetic circuit
   zk prove ADDRESS FILE CIRCUIT BITS OUTPUTS [--timeout S] [--public BITS]
       proves to a verifier over TCP
+  zk prove-arith ADDRESS FILE CIRCUIT VALUES OUTPUTS [--timeout S]
+      the same about an arithmetic circuit
   zk audit CIRCUIT OUTPUTS PROVERFILE VERIFIERFILE LOG [--public BITS]
       finds the inputs that an accepted session fixes, or why it fixes none
+  zk audit-arith CIRCUIT OUTPUTS PROVERFILE VERIFIERFILE LOG
+      the same of a session about an arithmetic circuit
   zk migrate SIDE FILE
       brings the journal of a dealt file that an earlier version made to the form of this one
   zk status FILE [CIRCUIT]
@@ -39,7 +46,8 @@ usage:
   zk --version
 
 BITS and OUTPUTS are words of 0 and 1, in order of wires, or `none`, or `@NAME` for those in the file NAME, so
-that private bits stand in no list of processes. Options stand anywhere after the command.
+that private bits stand in no list of processes. VALUES, and OUTPUTS of an arithmetic circuit, are files of elements.
+Options stand anywhere after the command.
 
 statuses:
   0  done, and accepted
@@ -153,6 +161,19 @@ example: zk serve-many 127.0.0.1:4000 /tmp/demo.verifier statements.txt --sessio
 options and statuses: those of `zk serve`, but for --public
 ";
 
+pub const SERVE_ARITH: &str = "\
+usage: zk serve-arith ADDRESS FILE CIRCUIT OUTPUTS --sessions N [--workers W] [--section G] [--timeout S] [--logs PREFIX]
+           [--follow]
+
+As `zk serve`, about an arithmetic circuit: that each prover knows input elements for which the circuit in the file CIRCUIT
+gives the elements in the file OUTPUTS, and which meet its assertions. OUTPUTS has numbers below 2^61 - 1 in decimal, with
+blanks between.
+
+example: zk serve-arith 127.0.0.1:4000 /tmp/demo.verifier examples/balances.txt outputs.txt --sessions 1
+
+options and statuses: those of `zk serve`, but for --public; 3 also where an output or their number is refused
+";
+
 pub const PROVE: &str = "\
 usage: zk prove ADDRESS FILE CIRCUIT BITS OUTPUTS [--timeout S] [--public BITS]
 
@@ -170,6 +191,19 @@ statuses: 0 accepted, 1 rejected, or the bits do not give the outputs, 3 a file 
   protocol
 ";
 
+pub const PROVE_ARITH: &str = "\
+usage: zk prove-arith ADDRESS FILE CIRCUIT VALUES OUTPUTS [--timeout S]
+
+As `zk prove`, about an arithmetic circuit: that there are input elements for which the circuit in the file CIRCUIT gives
+the elements in the file OUTPUTS, and which meet its assertions. Those in the file VALUES are used. Both files have numbers
+below 2^61 - 1 in decimal, with blanks between.
+
+example: zk prove-arith 127.0.0.1:4000 /tmp/demo.prover examples/balances.txt examples/balances.values outputs.txt
+
+options and statuses: those of `zk prove`, but for --public; 1 also where the elements fail an assertion, and 3 where an
+  element or their number is refused
+";
+
 pub const AUDIT: &str = "\
 usage: zk audit CIRCUIT OUTPUTS PROVERFILE VERIFIERFILE LOG [--public BITS]
 
@@ -182,6 +216,17 @@ example: zk audit examples/and.txt 1 /tmp/demo.prover /tmp/demo.verifier /tmp/de
 
 statuses: 0 the inputs are found, 1 they are not, 3 a file, the log or a number of bits is refused, 4 a file or the output
   failed, 7 memory was missing
+";
+
+pub const AUDIT_ARITH: &str = "\
+usage: zk audit-arith CIRCUIT OUTPUTS PROVERFILE VERIFIERFILE LOG
+
+As `zk audit`, of a session about the arithmetic circuit in the file CIRCUIT, with the claimed outputs in the file OUTPUTS:
+finds the input elements that an accepted session fixes, or why it fixes none.
+
+example: zk audit-arith examples/balances.txt outputs.txt /tmp/demo.prover /tmp/demo.verifier /tmp/demo.0
+
+statuses: those of `zk audit`; 3 also where an output or their number is refused
 ";
 
 pub const MIGRATE: &str = "\

@@ -17,8 +17,9 @@ ghost use Rattle.zk_model.specs.declared.Side.TheVariants.{Prover, Verifier};
 ghost use Rattle.zk_model.specs.declared.limits.TheConstants.{FILE_LIMIT};
 
 use crate::asks::{
-    Ask, AuditAsk, DealAsk, EvalAsk, GenerateAsk, MigrateAsk, ProveAsk, RehearseArithAsk,
-    RehearseAsk, SaidCommand, ServeAsk, ServeManyAsk, ServeOptions, StatusAsk,
+    Ask, AuditArithAsk, AuditAsk, DealAsk, EvalAsk, GenerateAsk, MigrateAsk, ProveArithAsk,
+    ProveAsk, RehearseArithAsk, RehearseAsk, SaidCommand, ServeArithAsk, ServeAsk, ServeManyAsk,
+    ServeOptions, StatusAsk,
 };
 use crate::bits::{BitsWord, read_bits_word};
 use crate::found::{At, Found};
@@ -322,6 +323,20 @@ pub fn serve_many(alloc: Global, found: &Found) -> Result<SaidCommand, Unread>
     }))
 }
 
+/// A verifier that serves one statement about an arithmetic circuit.
+pub fn serve_arith(alloc: Global, found: &Found) -> Result<SaidCommand, Unread>
+    ensures asked { IsReadTo (ask_of bits_ask) (asked_in name.ServeArith found.now) result }
+    ensures limits { IfOk result IsWithinLimits }
+{
+    Ok(Ask::ServeArith(ServeArithAsk {
+        address: found.text(alloc, At::Place(0))?,
+        file: found.text(alloc, At::Place(1))?,
+        circuit: found.text(alloc, At::Place(2))?,
+        outputs: found.text(alloc, At::Place(3))?,
+        options: service(alloc, found)?,
+    }))
+}
+
 /// A prover.
 pub fn prove(alloc: Global, found: &Found) -> Result<SaidCommand, Unread>
     ensures asked { IsReadTo (ask_of bits_ask) (asked_in name.Prove found.now) result }
@@ -338,6 +353,21 @@ pub fn prove(alloc: Global, found: &Found) -> Result<SaidCommand, Unread>
     }))
 }
 
+/// A prover of a statement about an arithmetic circuit.
+pub fn prove_arith(alloc: Global, found: &Found) -> Result<SaidCommand, Unread>
+    ensures asked { IsReadTo (ask_of bits_ask) (asked_in name.ProveArith found.now) result }
+    ensures limits { IfOk result IsWithinLimits }
+{
+    Ok(Ask::ProveArith(ProveArithAsk {
+        address: found.text(alloc, At::Place(0))?,
+        file: found.text(alloc, At::Place(1))?,
+        circuit: found.text(alloc, At::Place(2))?,
+        values: found.text(alloc, At::Place(3))?,
+        outputs: found.text(alloc, At::Place(4))?,
+        timeout: found.number(TIMEOUT)? as u32,
+    }))
+}
+
 /// An audit.
 pub fn audit(alloc: Global, found: &Found) -> Result<SaidCommand, Unread>
     ensures asked { IsReadTo (ask_of bits_ask) (asked_in name.Audit found.now) result }
@@ -350,6 +380,20 @@ pub fn audit(alloc: Global, found: &Found) -> Result<SaidCommand, Unread>
         verifier: found.text(alloc, At::Place(3))?,
         log: found.text(alloc, At::Place(4))?,
         public: found.bits(alloc, At::Behind(PUBLIC))?,
+    }))
+}
+
+/// An audit of a session about an arithmetic circuit.
+pub fn audit_arith(alloc: Global, found: &Found) -> Result<SaidCommand, Unread>
+    ensures asked { IsReadTo (ask_of bits_ask) (asked_in name.AuditArith found.now) result }
+    ensures limits { IfOk result IsWithinLimits }
+{
+    Ok(Ask::AuditArith(AuditArithAsk {
+        circuit: found.text(alloc, At::Place(0))?,
+        outputs: found.text(alloc, At::Place(1))?,
+        prover: found.text(alloc, At::Place(2))?,
+        verifier: found.text(alloc, At::Place(3))?,
+        log: found.text(alloc, At::Place(4))?,
     }))
 }
 

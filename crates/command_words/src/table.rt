@@ -62,6 +62,8 @@ pub const NAME: TableColumn = Column("NAME", Text, Always);
 
 pub const OUTPUTS: TableColumn = Column("OUTPUTS", Bits, Always);
 
+pub const OUTPUTS_FILE: TableColumn = Column("OUTPUTS", Text, Always);
+
 pub const PROVER_FILE: TableColumn = Column("PROVERFILE", Text, Always);
 
 pub const SIDE: TableColumn = Column("SIDE", Side, Always);
@@ -158,6 +160,14 @@ pub const SERVE_MANY: TableRow = Row {
     help: help::SERVE_MANY,
 };
 
+pub const SERVE_ARITH: TableRow = Row {
+    name: "serve-arith",
+    places: &[ADDRESS, FILE, CIRCUIT, OUTPUTS_FILE],
+    options: &[SESSIONS, WORKERS, SECTION, TIMEOUT, LOGS],
+    flags: &[FOLLOW],
+    help: help::SERVE_ARITH,
+};
+
 pub const PROVE: TableRow = Row {
     name: "prove",
     places: &[ADDRESS, FILE, CIRCUIT, BITS, OUTPUTS],
@@ -166,12 +176,28 @@ pub const PROVE: TableRow = Row {
     help: help::PROVE,
 };
 
+pub const PROVE_ARITH: TableRow = Row {
+    name: "prove-arith",
+    places: &[ADDRESS, FILE, CIRCUIT, VALUES, OUTPUTS_FILE],
+    options: &[TIMEOUT],
+    flags: &[],
+    help: help::PROVE_ARITH,
+};
+
 pub const AUDIT: TableRow = Row {
     name: "audit",
     places: &[CIRCUIT, OUTPUTS, PROVER_FILE, VERIFIER_FILE, LOG],
     options: &[PUBLIC],
     flags: &[],
     help: help::AUDIT,
+};
+
+pub const AUDIT_ARITH: TableRow = Row {
+    name: "audit-arith",
+    places: &[CIRCUIT, OUTPUTS_FILE, PROVER_FILE, VERIFIER_FILE, LOG],
+    options: &[],
+    flags: &[],
+    help: help::AUDIT_ARITH,
 };
 
 pub const MIGRATE: TableRow = Row {
@@ -199,8 +225,11 @@ pub enum Name {
     Deal,
     Serve,
     ServeMany,
+    ServeArith,
     Prove,
+    ProveArith,
     Audit,
+    AuditArith,
     Migrate,
     Status,
 }
@@ -213,8 +242,11 @@ pub const NAMES: &[Name] = &[
     Name::Deal,
     Name::Serve,
     Name::ServeMany,
+    Name::ServeArith,
     Name::Prove,
+    Name::ProveArith,
     Name::Audit,
+    Name::AuditArith,
     Name::Migrate,
     Name::Status,
 ];
@@ -239,8 +271,11 @@ impl Name {
             Name::Deal => DEAL,
             Name::Serve => SERVE,
             Name::ServeMany => SERVE_MANY,
+            Name::ServeArith => SERVE_ARITH,
             Name::Prove => PROVE,
+            Name::ProveArith => PROVE_ARITH,
             Name::Audit => AUDIT,
+            Name::AuditArith => AUDIT_ARITH,
             Name::Migrate => MIGRATE,
             Name::Status => STATUS,
         }

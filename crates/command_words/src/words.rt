@@ -11,7 +11,8 @@ use crate::asks::{Command, SaidCommand};
 use crate::bits::BitsWord;
 use crate::found::{Found, find_words};
 use crate::reading::{
-    Unread, audit, deal, eval, migrate, prove, rehearse, rehearse_arith, serve, serve_many, status,
+    Unread, audit, audit_arith, deal, eval, migrate, prove, prove_arith, rehearse, rehearse_arith,
+    serve, serve_arith, serve_many, status,
 };
 use crate::table::Name;
 use std::alloc::{AllocError, Global};
@@ -67,8 +68,11 @@ fn read_found(alloc: Global, name: Name, found: &Found) -> Result<SaidCommand, U
         Name::Deal => deal(alloc, found),
         Name::Serve => serve(alloc, found),
         Name::ServeMany => serve_many(alloc, found),
+        Name::ServeArith => serve_arith(alloc, found),
         Name::Prove => prove(alloc, found),
+        Name::ProveArith => prove_arith(alloc, found),
         Name::Audit => audit(alloc, found),
+        Name::AuditArith => audit_arith(alloc, found),
         Name::Migrate => migrate(alloc, found),
         Name::Status => status(alloc, found),
     }

@@ -1,4 +1,3 @@
-pub mod ArithCauses
 pub mod Asking
 pub mod BitsTexts
 pub mod Causes

@@ -5,7 +5,7 @@ use Rattle.zk_model.specs.Circuit.{Circuit}
 use Rattle.zk_port.specs.Files.{Files}
 use Rattle.command_words.specs.BitWords.{Bits, BitsAsk, said, named, bits_word}
 use Rattle.command_words.specs.Words.{Ask, rehearse_ask, eval_ask, serve_ask, prove_ask, audit_ask}
-use Rattle.command_words.specs.declared.asks.Ask.TheVariants.{Rehearse as rehearse, Generate as generate, RehearseArith as rehearse_arith, Eval as eval, Deal as deal, Serve as serve, ServeMany as serve_many, Prove as prove, Audit as audit, Migrate as migrate, Status as status}
+use Rattle.command_words.specs.declared.asks.Ask.TheVariants.{Rehearse as rehearse, Generate as generate, RehearseArith as rehearse_arith, Eval as eval, Deal as deal, Serve as serve, ServeMany as serve_many, ServeArith as serve_arith, Prove as prove, ProveArith as prove_arith, Audit as audit, AuditArith as audit_arith, Migrate as migrate, Status as status}
 use Rattle.file_commands.specs.Effects.{ShelfChange}
 use Rattle.file_commands.specs.Stops.{HasText, HasCircuit, LoadStop, CircuitStop}
 use Rattle.file_commands.specs.declared.refusal.Refusal.{Refusal}
@@ -47,13 +47,16 @@ IsAskGiven told (serve ask) given =
     (public : Bits) × (outputs : Bits) × AreGiven told ask.public public × AreGiven told ask.outputs outputs
     × (given ≡ serve (serve_ask ask.address ask.file ask.circuit public outputs ask.options))
 IsAskGiven told (serve_many ask) given = given ≡ serve_many ask
+IsAskGiven told (serve_arith ask) given = given ≡ serve_arith ask
 IsAskGiven told (prove ask) given =
     (public : Bits) × (bits : Bits) × (outputs : Bits)
     × AreGiven told ask.public public × AreGiven told ask.bits bits × AreGiven told ask.outputs outputs
     × (given ≡ prove (prove_ask ask.address ask.file ask.circuit public bits outputs ask.timeout))
+IsAskGiven told (prove_arith ask) given = given ≡ prove_arith ask
 IsAskGiven told (audit ask) given =
     (public : Bits) × (outputs : Bits) × AreGiven told ask.public public × AreGiven told ask.outputs outputs
     × (given ≡ audit (audit_ask ask.circuit public outputs ask.prover ask.verifier ask.log))
+IsAskGiven told (audit_arith ask) given = given ≡ audit_arith ask
 IsAskGiven told (migrate ask) given = given ≡ migrate ask
 IsAskGiven told (status ask) given = given ≡ status ask
 

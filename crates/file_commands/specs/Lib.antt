@@ -1,4 +1,3 @@
-pub mod ArithFiles
 pub mod BitsTexts
 pub mod ClaimedUnits
 pub mod DealRuns

@@ -260,6 +260,7 @@ pub fn read_given<F: Shelf>(
             Ok(Ask::Serve(known!(ServeAsk; ask; address, file, circuit, options; public, outputs)))
         }
         Ask::ServeMany(ask) => Ok(Ask::ServeMany(ask)),
+        Ask::ServeArith(ask) => Ok(Ask::ServeArith(ask)),
         Ask::Prove(ask) => {
             let (public, bits) = input_bits(alloc, shelf, ask.public, ask.bits, &ask.circuit)?;
             let outputs = word_bits(alloc, shelf, ask.outputs, WantedBits::Outputs, &ask.circuit)?;
@@ -267,6 +268,7 @@ pub fn read_given<F: Shelf>(
                 known!(ProveAsk; ask; address, file, circuit, timeout; public, bits, outputs),
             ))
         }
+        Ask::ProveArith(ask) => Ok(Ask::ProveArith(ask)),
         Ask::Audit(ask) => {
             let (public, outputs) = claimed_bits(
                 alloc,
@@ -277,6 +279,7 @@ pub fn read_given<F: Shelf>(
             )?;
             Ok(Ask::Audit(known!(AuditAsk; ask; circuit, prover, verifier, log; public, outputs)))
         }
+        Ask::AuditArith(ask) => Ok(Ask::AuditArith(ask)),
         Ask::Migrate(ask) => Ok(Ask::Migrate(ask)),
         Ask::Status(ask) => Ok(Ask::Status(ask)),
     }

@@ -1,14 +1,12 @@
-//! What commands load, open, say and stop by, the files of bits and of elements that words name too; and the commands that hold no session: `deal`, `eval`
+//! What commands load, open, say and stop by, the files of bits that words name too; and the commands that hold no session: `deal`, `eval`
 //! and `migrate`.
 //!
-//! `proof_audit` has `audit`, and `zk_cli` the other commands and the top call.
+//! `claim_files` loads arithmetic circuits, elements and claims. `proof_audit` has `audit`, and `zk_cli` the other commands and the top call.
 #![tactic(auto)]
 
-mod arith_file;
 mod circuit_file;
 mod deal_command;
 mod dealt_file;
-mod elements_file;
 mod eval_command;
 mod given_bits;
 mod journal_file;
@@ -17,16 +15,12 @@ mod migrate_command;
 mod refusal;
 mod saying;
 
-pub use arith_file::{
-    ArithOutputs, DigestedArith, load_arith, load_arith_claim, load_digested_arith,
-};
 pub use circuit_file::{
     ClaimedCircuit, check_public, load_circuit, load_claimed, load_file, read_and_digest,
     read_circuit,
 };
 pub use deal_command::run_deal;
 pub use dealt_file::{load_prover, load_verifier};
-pub use elements_file::load_elements;
 pub use eval_command::run_eval;
 pub use given_bits::read_given;
 pub use journal_file::{open_ceilings, open_claims};

@@ -86,7 +86,7 @@ one_session task log t u file accepted also =
         (whole_read task log u file also)
 
 pub one_answer : OneAnswer
-one_answer circuit public outputs prover task log t finding other left right dealt accepted found is =
+one_answer claimed prover task log t finding other left right dealt accepted found is =
     one_finding prover task.statement t finding other left accepted.served.in_order.stated
     (subst (λ (params : Params). IsTranscript params task.statement.program t) (sym dealt.params) accepted.served.in_order.transcript)
     (subst (λ u. IsFinding prover task.statement u finding) (one_session task log found.t t right found.accepted accepted) found.found)

@@ -1,12 +1,13 @@
 -- What the prover's file and an accepted session give.
-use Rattle.std.proofs.Common.{◌≡◌, ℕ, ◌+◌, ◌-◌, ◌^◌, ◌<◌, ◌≤◌, List, [], map, take, length, slice_index, refl, sym, ◌∙◌, ap, subst, arith, inl, inr}
-use Rattle.std.specs.Prelude.{All, Bool, nat_eq}
+use Rattle.std.proofs.Common.{◌≡◌, ℕ, ◌+◌, ◌-◌, ◌^◌, ◌<◌, ◌≤◌, List, [], take, length, slice_index, refl, sym, ◌∙◌, ap, subst, arith, inl, inr}
+use Rattle.std.specs.Prelude.{All}
 use Rattle.std.proofs.lemmas.List.{length-map}
 use Rattle.std.proofs.lemmas.Nat.{div_below}
 use Rattle.proof_frames.specs.Frames.{frame_value}
 use Rattle.proof_frames.specs.declared.frame.Frame as coded
 use Rattle.zk_model.specs.Mac.{Pair, fitting_key, corrected_pairs, pair_at, values_of}
-use Rattle.zk_model.specs.Program.{section_count, part_count, correlations_needed}
+use Rattle.zk_model.specs.Finding.{IsFinding, found_inputs}
+use Rattle.zk_model.specs.Program.{Program, section_count, part_count, correlations_needed}
 use Rattle.zk_model.specs.Statement.{Statement}
 use Rattle.zk_model.specs.Files.{ProverFile}
 use Rattle.zk_model.specs.Transcript.{Hello, IsRound, IsTranscript}
@@ -21,12 +22,14 @@ use Rattle.session_core.specs.Extending.{asks_in, replies_in, asks_of, replies_o
 use Rattle.session_core.proofs.DirectViews.{pairs_seen}
 use Rattle.zk_laws.proofs.KeysFit.{keys_fit}
 use Rattle.zk_laws.proofs.SessionKeys.{AreBothEnds, left_side, wire_fits, opened_pair}
-use Rattle.zk_laws.proofs.Views.{rounds_are, enough_pairs, given_count}
+use Rattle.zk_laws.proofs.Views.{rounds_are, enough_pairs}
 use Rattle.zk_laws.proofs.WholePairs.{pairs_are_whole}
 use Rattle.zk_laws.specs.SeenPairs.{AreSessionPairs}
-use Rattle.proof_audit.specs.Audits.{IsAudited, AreFoundBits, FileGives}
+use Rattle.proof_audit.specs.Audits.{IsAudited, FileGives}
 use Rattle.check_findings.specs.Findings.{ShowsOpening}
+use Rattle.proof_audit.proofs.Wires.{first_corrected}
 use Rattle.proof_audit.specs.Seen.{HasRounds, ArePairsBy, AreSeenPairs}
+use Rattle.proof_audit.specs.SeenValues.{corrected_values}
 use Rattle.proof_audit.specs.SeenWires.{SeenSide}
 use Rattle.proof_audit.specs.Searches.{SectionsMeet, OpeningsMeet, NoErrorsBefore, AreAsClaimedBefore, ShowsFirstSection}
 use Rattle.proof_audit.specs.Stages.{rounds_read, setup_read, commitment_read, transcript_read}
@@ -123,13 +126,6 @@ view_is : (prover : ProverFile) (task : VerifierTask) (s : Session) (pairs : Lis
 view_is prover task s pairs wires are =
     record { pairs = prover_view prover task s pairs are.audited are.seen; given = are.given; carried = are.carried }
 
-pub given_counted : (prover : ProverFile) (task : VerifierTask) (s : Session) (pairs : List Pair) (wires : WirePairs)
-    → AreSeen prover task s pairs wires → length wires.given ≡ task.statement.program.givens
-given_counted prover task s pairs wires are =
-    ap length are.given
-    ∙ given_count prover task.statement.program (commitment_read task are.audited.greeting s) pairs are.audited.prover_file
-    (whole prover task s are.audited).commitment (prover_view prover task s pairs are.audited are.seen)
-
 -- both ends fit
 both_ends : (prover : ProverFile) (task : VerifierTask) (s : Session) (pairs : List Pair) (wires : WirePairs)
     → (are : AreSeen prover task s pairs wires)
@@ -178,7 +174,7 @@ openings_meet prover task s pairs wires are = record {
 pub gives_section : (prover : ProverFile) (task : VerifierTask) (s : Session) (pairs : List Pair) (wires : WirePairs)
     → (are : AreSeen prover task s pairs wires) → (shown : Finding) → ShowsFirstSection (side_of task wires) pairs s shown
     → FileGives prover task.statement (transcript_read task are.audited.greeting s 0 0) shown
-gives_section prover task s pairs wires are (Inputs bits) shows = absurd shows
+gives_section prover task s pairs wires are (Inputs inputs) shows = absurd shows
 gives_section prover task s pairs wires are NotAccepted shows = absurd shows
 gives_section prover task s pairs wires are (ChallengeRoot section polynomial) shows = record {
   view = record { pairs = pairs; carried = wires };
@@ -199,7 +195,7 @@ pub gives_opening : (prover : ProverFile) (task : VerifierTask) (s : Session) (p
     (length task.statement.program.opened) o
     → ShowsOpening (pair_at (opened_pairs task.statement.program wires) o) (slice_index s.openings.items o) (slice_index task.statement.claims o) shown
     → FileGives prover task.statement (transcript_read task are.audited.greeting s 0 0) shown
-gives_opening prover task s pairs wires o are (Inputs bits) right first shows = absurd shows
+gives_opening prover task s pairs wires o are (Inputs inputs) right first shows = absurd shows
 gives_opening prover task s pairs wires o are NotAccepted right first shows = absurd shows
 gives_opening prover task s pairs wires o are (ChallengeRoot section polynomial) right first shows = absurd shows
 gives_opening prover task s pairs wires o are (KeyRoot polynomial) right first shows = record {
@@ -209,20 +205,16 @@ gives_opening prover task s pairs wires o are (KeyRoot polynomial) right first s
 }
 
 -- no section has an error, and every opened wire is as claimed
-pub gives_inputs : (prover : ProverFile) (task : VerifierTask) (s : Session) (pairs : List Pair) (wires : WirePairs) (bits : List Bool)
+pub gives_inputs : (prover : ProverFile) (task : VerifierTask) (s : Session) (pairs : List Pair) (wires : WirePairs) (inputs : List ℕ)
     → (are : AreSeen prover task s pairs wires)
     → NoErrorsBefore (side_of task wires) s (section_count task.statement.program s.grant.section_length)
     → AreAsClaimedBefore (side_of task wires) task.statement.claims (length task.statement.program.opened)
-    → bits ≡ map (λ x. nat_eq x 1) (take task.statement.program.inputs (values_of wires.given))
-    → AreFoundBits prover task.statement (transcript_read task are.audited.greeting s 0 0) bits
-gives_inputs prover task s pairs wires bits are right claimed is = record {
-  inputs = take task.statement.program.inputs (values_of wires.given);
-  bits_are = is;
-  found = record {
-    view = record { pairs = pairs; carried = wires };
-    seen = view_is prover task s pairs wires are;
-    gives = record { right = right; claimed = claimed; inputs_are = refl };
-  };
+    → inputs ≡ take task.statement.program.inputs (values_of wires.given)
+    → IsFinding prover task.statement (transcript_read task are.audited.greeting s 0 0) (found_inputs inputs)
+gives_inputs prover task s pairs wires inputs are right claimed is = record {
+  view = record { pairs = pairs; carried = wires };
+  seen = view_is prover task s pairs wires are;
+  gives = record { right = right; claimed = claimed; inputs_are = is };
 }
 
 -- ---- what is known of a statement
@@ -265,6 +257,20 @@ abbrev pub as_seen : (prover : ProverFile) (task : VerifierTask) (statement : St
     → AreSeen prover task s pairs side.pairs × (side ≡ side_of task side.pairs)
 as_seen prover task statement s pairs side known same audited =
     (are_seen prover task statement s pairs side known same audited, side_same prover task statement s pairs side known same)
+
+-- the first corrected values are the inputs
+pub inputs_seen : (prover : ProverFile) (task : VerifierTask) (statement : Statement) (s : Session) (pairs : List Pair) (side : SeenSide)
+    (count : ℕ) (corrections inputs : List ℕ) → AreKnown prover statement s pairs side → task.statement ≡ statement
+    → count ≡ side.program.inputs → corrections ≡ s.corrections.items → inputs ≡ corrected_values count pairs corrections
+    → inputs ≡ take task.statement.program.inputs (values_of side.pairs.given)
+inputs_seen prover task statement s pairs side count corrections inputs known same counted said is =
+    is ∙ first_corrected count pairs corrections ∙ (λ i. take (number i) (values_of (given i)))
+  where
+    number : count ≡ task.statement.program.inputs
+    number = counted ∙ ap (λ (p : Program). p.inputs) known.program ∙ ap (λ (st : Statement). st.program.inputs) (sym same)
+
+    given : corrected_pairs pairs corrections ≡ side.pairs.given
+    given = ap (corrected_pairs pairs) said ∙ sym known.given
 
 -- few sections
 pub few_sections : (n g : ℕ) → 1 ≤ g → n ≤ 16777216 → part_count n g < 2 ^ 32

@@ -14,7 +14,7 @@ use Rattle.proof_audit.specs.declared.session.Session.{Session}
 pub shows_first : (side : SeenSide) (pairs : List Pair) (s : Session) (i : ℕ) (shown : Finding) → ShowsSectionAt i side pairs s shown
     → NoErrorsBefore side s i → i < section_count side.program s.grant.section_length → ¬ IsZero (errors_at side s i)
     → ShowsFirstSection side pairs s shown
-shows_first side pairs s i (Inputs bits) shows before below fails = absurd shows
+shows_first side pairs s i (Inputs inputs) shows before below fails = absurd shows
 shows_first side pairs s i NotAccepted shows before below fails = absurd shows
 shows_first side pairs s i (KeyRoot polynomial) shows before below fails = λ task greeting. record {
   section = i;

@@ -1,5 +1,5 @@
 -- Values and MACs as pairs.
-use Rattle.std.proofs.Common.{Bool, nat_eq, drop, ◌++◌, ◌-◌, ◌≡◌, ℕ, zero, suc, ◌+◌, ◌<◌, ◌≤◌, List, [], ◌∷◌, map, zip, take, length, get_or, refl, sym, ◌∙◌, ap, subst, arith, mod-eq_of_lt}
+use Rattle.std.proofs.Common.{drop, ◌++◌, ◌-◌, ◌≡◌, ℕ, zero, suc, ◌+◌, ◌<◌, ◌≤◌, List, [], ◌∷◌, map, zip, take, length, get_or, refl, sym, ◌∙◌, ap, subst, arith, mod-eq_of_lt}
 use Rattle.std.specs.Prelude.{All, Some, slice_get, slice_index}
 use Rattle.std.proofs.lemmas.List.{length-map, get_or-map, map-append, take_more, length-drop, get_or-drop}
 use Rattle.std.proofs.lemmas.Option.{slice_get-get_or}
@@ -11,6 +11,7 @@ use Rattle.zk_model.specs.Program.{Program, Carries}
 use Rattle.zk_model.specs.Check.{WirePairs, WireKeys, KeyTriple, Triple, ArePairsOf, key_triple, product_triple, opened_pairs}
 use Rattle.zk_model.specs.declared.Product.{Product}
 use Rattle.wire_auth.specs.Sides.{VerifierSide, joined}
+use Rattle.proof_audit.specs.SeenValues.{corrected_values}
 use Rattle.proof_audit.specs.SeenWires.{SeenSide, joined_pairs, AreSideBySide}
 
 -- ---- lists of pairs
@@ -142,14 +143,10 @@ pub products_of : {n : ℕ} {program : Program} {side other : SeenSide} → n �
     → n ≡ length other.program.products
 products_of is of same = is ∙ ap (λ (p : Program). length p.products) (of ∙ ap (λ (s : SeenSide). s.program) same)
 
--- one bit more
-pub bit_more : (given : List Pair) (i : ℕ) (before now : List Bool) (x : ℕ) → i < length given
-    → before ≡ map (λ x. nat_eq x 1) (take i (values_of given)) → x ≡ (pair_at given i).x → now ≡ before ++ nat_eq x 1 ∷ []
-    → now ≡ map (λ x. nat_eq x 1) (take (i + 1) (values_of given))
-bit_more given i before now x below far is pushed =
-    pushed ∙ (λ j. far j ++ nat_eq (value j) 1 ∷ [])
-    ∙ sym (ap (map (λ x. nat_eq x 1)) (take_more (values_of given) i 0 (omega (arith, below, length-map given (λ (pair : Pair). pair.x))))
-    ∙ map-append (λ x. nat_eq x 1) (take i (values_of given)) (get_or (values_of given) i 0 ∷ []))
-  where
-    value : x ≡ get_or (values_of given) i 0
-    value = is ∙ sym (get_or-map (λ (pair : Pair). pair.x) given i (record { x = 0; m = 0 }) 0 below)
+-- the first values that are corrected
+pub first_corrected : (count : ℕ) (pairs : List Pair) (corrections : List ℕ)
+    → corrected_values count pairs corrections ≡ take count (values_of (corrected_pairs pairs corrections))
+first_corrected zero pairs corrections = refl
+first_corrected (suc count) [] corrections = refl
+first_corrected (suc count) (pair ∷ pairs) [] = refl
+first_corrected (suc count) (pair ∷ pairs) (d ∷ corrections) = ap (λ l. (pair.x +ₚ d) ∷ l) (first_corrected count pairs corrections)

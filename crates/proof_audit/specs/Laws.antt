@@ -1,13 +1,13 @@
 -- What a log can be at once.
-use Rattle.std.specs.Prelude.{◌≡◌, ℕ, None, Bool, List, []}
-use Rattle.zk_model.specs.Circuit.{Circuit}
+use Rattle.std.specs.Prelude.{◌≡◌, ℕ, None, List, []}
 use Rattle.zk_model.specs.Files.{ProverFile, IsProverFile, IsVerifierFile, AreDealt}
 use Rattle.zk_model.specs.Finding.{Finding, IsFinding}
-use Rattle.zk_model.specs.Headline.{AreSatisfyingBits, ShowsOutputs}
+use Rattle.zk_model.specs.Headline.{ShowsInputs}
 use Rattle.zk_model.specs.Frames.{Frame}
 use Rattle.zk_model.specs.Transcript.{Transcript}
 use Rattle.zk_model.specs.ServedVerifier.{VerifierTask}
 use Rattle.zk_model.specs.Audit.{place_after, IsReadAs, HasFaultAt, EndsEarly, IsNotAccepted, IsAcceptedLog, IsFoundIn}
+use Rattle.claim_files.specs.NamedClaims.{AreSatisfying, Claimed}
 
 -- a log whose bytes are faultless frames behind which none may follow has no fault, and does not end early
 abbrev pub WholeLogsAreRight : Type 0
@@ -22,15 +22,14 @@ AcceptedLogsAreRight = (task : VerifierTask) (log : List ℕ) (t : Transcript) �
 
 -- what is found in a log shows of its session what an accepted one shows of a circuit's outputs
 abbrev pub FoundShowsOutputs : Type 0
-FoundShowsOutputs =
-    (circuit : Circuit) (public outputs : List Bool) (prover : ProverFile) (task : VerifierTask)
-    (log : List ℕ) (finding : Finding) → (found : IsFoundIn (AreSatisfyingBits circuit public outputs) prover task log finding)
-    → ShowsOutputs circuit public outputs prover task.file.key task.statement found.t
+FoundShowsOutputs = (claimed : Claimed) (prover : ProverFile) (task : VerifierTask) (log : List ℕ) (finding : Finding)
+    → (found : IsFoundIn (AreSatisfying claimed) prover task log finding)
+    → ShowsInputs (AreSatisfying claimed) prover task.file.key task.statement found.t
 
 -- what is found in the log of an accepted session is the one finding of that session
 abbrev pub OneAnswer : Type 0
-OneAnswer = (circuit : Circuit) (public outputs : List Bool) (prover : ProverFile) (task : VerifierTask) (log : List ℕ)
+OneAnswer = (claimed : Claimed) (prover : ProverFile) (task : VerifierTask) (log : List ℕ)
     (t : Transcript) (finding other : Finding) → IsProverFile prover → IsVerifierFile task.file
     → AreDealt prover task.file → IsAcceptedLog task log t
-    → IsFoundIn (AreSatisfyingBits circuit public outputs) prover task log finding → IsFinding prover task.statement t other
+    → IsFoundIn (AreSatisfying claimed) prover task log finding → IsFinding prover task.statement t other
     → finding ≡ other

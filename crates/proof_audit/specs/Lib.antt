@@ -8,3 +8,4 @@ pub mod Searches
 pub mod Audits
 pub mod Laws
 pub mod AuditRuns
+pub mod NamedAudits

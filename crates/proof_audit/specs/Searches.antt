@@ -40,7 +40,7 @@ NoErrorsBefore side s n = AllBelow n (λ i. IsZero (errors_at side s i))
 
 -- what section i shows, with its number
 abbrev pub ShowsSectionAt : ℕ → SeenSide → List Pair → Session → Finding → Type 0
-ShowsSectionAt i side pairs s (Inputs bits) = ⊥
+ShowsSectionAt i side pairs s (Inputs inputs) = ⊥
 ShowsSectionAt i side pairs s (ChallengeRoot section polynomial) = (section ≡ i)
     × IsErrorRoot s.challenge (section_triples side.program s.grant.section_length side.pairs i)
     polynomial.items
@@ -55,7 +55,7 @@ ShowsWrongSection i side pairs s finding = ¬ IsZero (errors_at side s i) × Sho
 
 -- what the first section with an error shows
 abbrev pub ShowsFirstSection : SeenSide → List Pair → Session → Finding → Type 0
-ShowsFirstSection side pairs s (Inputs bits) = ⊥
+ShowsFirstSection side pairs s (Inputs inputs) = ⊥
 ShowsFirstSection side pairs s (ChallengeRoot section polynomial) = (task : VerifierTask) (greeting : Hello)
     → IsChallengeRoot side.program (transcript_read task greeting s 0 0)
     (view_of side pairs) section polynomial.items

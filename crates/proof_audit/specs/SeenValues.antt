@@ -39,3 +39,7 @@ round_values file start asked count =
 -- pairs of these values, whose MACs fit these keys under the verifier's one key
 abbrev pub fitted_pairs : ℕ → List ℕ → List ℕ → List Pair
 fitted_pairs key values keys = map (λ q. record { x = q.0; m = q.1 -ₚ q.0 *ₚ key }) (zip values keys)
+
+-- the first values of pairs, so many, each with its correction added
+abbrev pub corrected_values : ℕ → List Pair → List ℕ → List ℕ
+corrected_values count pairs corrections = map (λ q. q.0.x +ₚ q.1) (take count (zip pairs corrections))

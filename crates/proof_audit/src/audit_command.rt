@@ -1,26 +1,29 @@
-// `audit CIRCUIT OUTPUTS PROVERFILE VERIFIERFILE LOG [--public BITS]`
-ghost use Rattle.std.specs.Prelude.{◌≡◌, ◌≤◌, ◌++◌, length, codes, IfOk, IfErr, OnOk, string_bytes};
+// `audit CIRCUIT OUTPUTS PROVERFILE VERIFIERFILE LOG [--public BITS]`, and `audit-arith`.
+ghost use Rattle.std.specs.Prelude.{◌≡◌, ◌++◌, codes, map, nat_eq, IfOk, IfErr, OnOk, string_bytes};
 ghost use Rattle.std.specs.Fmt.{decimal};
-ghost use Rattle.zk_model.specs.Bytes.{AreBytes};
 ghost use Rattle.zk_port.specs.Changes.{change};
-ghost use Rattle.command_words.specs.Commands.{audit_of, known_bits};
+ghost use Rattle.command_words.specs.Commands.{audit_arith_of, audit_of, known_bits};
+ghost use Rattle.claim_files.specs.NamedClaims.{Claimed};
 ghost use Rattle.proof_audit.specs.Audits.{audit_task};
-ghost use Rattle.proof_audit.specs.AuditRuns.{Audits, AuditStop, AreFiles, FindsIn, IsAuditName, audit_refusal, coefficients, finding_line, finding_status};
+ghost use Rattle.proof_audit.specs.AuditRuns.{Audits, AuditStop, AreFiles, FindsIn, audit_refusal, coefficients, finding_line, finding_status, inputs_word};
+ghost use Rattle.proof_audit.specs.NamedAudits.{IsAuditName, audit_asked, audit_of_arith};
 ghost use Rattle.file_commands.specs.Effects.{OnlyLoads, effects};
 ghost use Rattle.file_commands.specs.Stops.{PrintsMade};
 
+use crate::audit_names::AuditNames;
 use crate::auditing::audit;
 use crate::fault::AuditFault;
 use crate::laws::{accepted_logs_are_right, one_answer};
+use arith_reader::texts_are_exact;
 use bristol_reader::one_circuit;
 use check_findings::Finding;
-use command_words::{AuditAsk, write_bits};
+use claim_files::{ClaimNames, load_claim};
+use command_words::{AuditArithAsk, AuditAsk, write_bits};
 use dealer_files::{ProverFile, VerifierFile};
-use file_commands::{
-    ClaimedCircuit, Refusal, load_claimed, load_file, load_prover, load_verifier, say, say_memory,
-    say_stop,
-};
+use element_file::{elements_are_exact, write_elements};
+use file_commands::{Refusal, load_file, load_prover, load_verifier, say, say_memory, say_stop};
 use mersenne_field::Fe;
+use session_core::CircuitClaim;
 use std::alloc::{AllocError, Global};
 use std::thread::Threads;
 use zk_port::{Shelf, Sink};
@@ -28,7 +31,7 @@ use zk_port::{Shelf, Sink};
 /// The claim and both dealt files.
 #[derive(Drop)]
 struct AuditedFiles {
-    claimed: ClaimedCircuit,
+    claim: CircuitClaim,
     prover: ProverFile,
     verifier: VerifierFile,
 }
@@ -38,26 +41,19 @@ fn load_audited<R: Threads + Sync, F: Shelf>(
     rt: &R,
     alloc: Global,
     shelf: &mut F,
-    ask: &AuditAsk<String, Vec<bool>>,
+    names: &AuditNames,
 ) -> Result<AuditedFiles, Refusal>
-    ensures files { IfOk result (λ files. AreFiles (F.state shelf.old).told (audit_of known_bits ask.now)
-        files.claimed.circuit files.prover (audit_task files.claimed.circuit files.claimed.digest
-        ask.now.public.items ask.now.outputs.items files.verifier)) }
-    ensures digest { IfOk result (λ files. AreBytes 32 files.claimed.digest) }
-    ensures public { IfOk result (λ files. length ask.now.public.items ≤ files.claimed.circuit.inputs) }
-    ensures outputs { IfOk result (λ files.
-        length ask.now.outputs.items ≡ files.claimed.circuit.outputs) }
-    ensures stop { IfErr result (AuditStop (audit_of known_bits ask.now)
-        (change (F.state shelf.old) (F.state shelf.new))) }
-    ensures kept { OnlyLoads (IsAuditName (audit_of known_bits ask.now))
-        (change (F.state shelf.old) (F.state shelf.new)) }
+    ensures files { IfOk result (λ files. (claimed : Claimed) × AreFiles (F.state shelf.old).told names.now
+        claimed files.prover (audit_task files.claim files.verifier)) }
+    ensures stop { IfErr result (AuditStop names.now (change (F.state shelf.old) (F.state shelf.new))) }
+    ensures kept { OnlyLoads (IsAuditName names.now) (change (F.state shelf.old) (F.state shelf.new)) }
     ensures quiet { OnOk result (F.state shelf.new ≡ F.state shelf.old) }
 {
-    let claimed = load_claimed(rt, alloc, shelf, &ask.circuit, &ask.public, &ask.outputs)?;
-    let prover = load_prover(alloc, shelf, &ask.prover)?;
-    let verifier = load_verifier(alloc, shelf, &ask.verifier)?;
+    let claim = load_claim(rt, alloc, shelf, names.claim())?;
+    let prover = load_prover(alloc, shelf, names.prover())?;
+    let verifier = load_verifier(alloc, shelf, names.verifier())?;
     Ok(AuditedFiles {
-        claimed,
+        claim,
         prover,
         verifier,
     })
@@ -79,32 +75,20 @@ fn audit_files<R: Threads + Sync, F: Shelf>(
     rt: &R,
     alloc: Global,
     shelf: &mut F,
-    ask: &AuditAsk<String, Vec<bool>>,
+    names: &AuditNames,
 ) -> Result<Finding, Refusal>
-    ensures found { IfOk result (FindsIn (F.state shelf.old).told (audit_of known_bits ask.now)) }
-    ensures stop { IfErr result (AuditStop (audit_of known_bits ask.now)
-        (change (F.state shelf.old) (F.state shelf.new))) }
-    ensures kept { OnlyLoads (IsAuditName (audit_of known_bits ask.now))
-        (change (F.state shelf.old) (F.state shelf.new)) }
+    ensures found { IfOk result (FindsIn (F.state shelf.old).told names.now) }
+    ensures stop { IfErr result (AuditStop names.now (change (F.state shelf.old) (F.state shelf.new))) }
+    ensures kept { OnlyLoads (IsAuditName names.now) (change (F.state shelf.old) (F.state shelf.new)) }
 {
-    let files = load_audited(rt, alloc, shelf, ask)?;
-    let log = load_file(alloc, shelf, &ask.log)?;
+    let files = load_audited(rt, alloc, shelf, names)?;
+    let log = load_file(alloc, shelf, names.log())?;
     let AuditedFiles {
-        claimed,
+        claim,
         prover,
         verifier,
     } = files;
-    let ClaimedCircuit { circuit, digest } = claimed;
-    match audit(
-        alloc,
-        circuit,
-        digest,
-        &ask.public,
-        &ask.outputs,
-        &prover,
-        &verifier,
-        &log,
-    ) {
+    match audit(alloc, &claim.statement(), &prover, &verifier, &log) {
         Ok(finding) => Ok(finding),
         Err(fault) => Err(refusal_of(fault)),
     }
@@ -132,14 +116,34 @@ fn write_section(alloc: Global, section: u32, poly: &str) -> Result<String, Allo
     Ok(format!(in alloc; "challenge root section {section} poly{poly}\n")?)
 }
 
-/// The line of a finding.
-fn write_finding(alloc: Global, finding: &Finding) -> Result<String, AllocError>
-    ensures { IfOk result (λ line. string_bytes line ≡ finding_line finding.now) }
+/// Which inputs are 1.
+fn ones_of(alloc: Global, inputs: &[Fe]) -> Result<Vec<bool>, AllocError>
+    ensures { IfOk result (λ bits. bits.items ≡ map (λ x. nat_eq x 1) inputs.now) }
+{
+    inputs.iter().map(|x| *x == Fe::ONE).collect(alloc)
+}
+
+/// The word of a claim's inputs: of a Boolean circuit as bits, of an arithmetic one as elements.
+fn write_inputs(alloc: Global, claim: &ClaimNames, inputs: &[Fe]) -> Result<String, AllocError>
+    ensures { IfOk result (λ word. string_bytes word ≡ inputs_word claim.now inputs.now) }
+{
+    match claim {
+        ClaimNames::Boolean(_) => {
+            let bits = ones_of(alloc, inputs)?;
+            write_bits(alloc, &bits)
+        }
+        ClaimNames::Arithmetic(_) => write_elements(alloc, inputs),
+    }
+}
+
+/// The line of a finding about a claim.
+fn write_finding(alloc: Global, claim: &ClaimNames, finding: &Finding) -> Result<String, AllocError>
+    ensures { IfOk result (λ line. string_bytes line ≡ finding_line claim.now finding.now) }
 {
     match finding {
-        Finding::Inputs(bits) => {
-            let bits = write_bits(alloc, bits.as_slice())?;
-            Ok(format!(in alloc; "inputs {bits}\n")?)
+        Finding::Inputs(inputs) => {
+            let word = write_inputs(alloc, claim, inputs)?;
+            Ok(format!(in alloc; "inputs {word}\n")?)
         }
         Finding::ChallengeRoot {
             section,
@@ -166,34 +170,66 @@ fn status_of(finding: &Finding) -> u8
     }
 }
 
-/// Says what is found, or that there is no memory for its line, and answers the status.
-fn say_finding<O: Sink>(alloc: Global, out: &mut O, finding: &Finding) -> u8
-    ensures { PrintsMade (finding_status finding.now) (finding_line finding.now) result
+/// Says what is found about a claim, or that there is no memory for its line, and answers the status.
+fn say_finding<O: Sink>(alloc: Global, out: &mut O, claim: &ClaimNames, finding: &Finding) -> u8
+    ensures { PrintsMade (finding_status finding.now) (finding_line claim.now finding.now) result
         (change (O.state out.old) (O.state out.new)) }
 {
-    match write_finding(alloc, finding) {
+    match write_finding(alloc, claim, finding) {
         Ok(line) => say(alloc, out, line.as_bytes(), status_of(finding)),
         Err(_) => say_memory(alloc, out),
     }
 }
 
-/// `audit CIRCUIT OUTPUTS PROVERFILE VERIFIERFILE LOG [--public BITS]`: says what the log of a session proves to one who has both dealt
-/// files, or why it says nothing, and answers the status.
+/// Says what the log of a session proves to one who has both dealt files, or why it says nothing, and answers the status.
+fn run_named<R: Threads + Sync, F: Shelf, O: Sink>(
+    rt: &R,
+    alloc: Global,
+    shelf: &mut F,
+    out: &mut O,
+    names: &AuditNames,
+) -> u8
+    ensures { Audits names.now (effects result
+        (change (F.state shelf.old) (F.state shelf.new)) (change (O.state out.old) (O.state out.new))) }
+{
+    one_circuit();
+    texts_are_exact();
+    elements_are_exact();
+    accepted_logs_are_right();
+    one_answer();
+    match audit_files(rt, alloc, shelf, names) {
+        Ok(finding) => say_finding(alloc, out, names.claim(), &finding),
+        Err(stop) => say_stop(alloc, out, stop),
+    }
+}
+
+/// `audit CIRCUIT OUTPUTS PROVERFILE VERIFIERFILE LOG [--public BITS]`: says what the log of a session about a Boolean circuit proves to one
+/// who has both dealt files, or why it says nothing, and answers the status.
 pub fn run_audit<R: Threads + Sync, F: Shelf, O: Sink>(
     rt: &R,
     alloc: Global,
     shelf: &mut F,
     out: &mut O,
-    ask: &AuditAsk<String, Vec<bool>>,
+    ask: AuditAsk<String, Vec<bool>>,
 ) -> u8
-    ensures { Audits (audit_of known_bits ask.now) (effects result
+    ensures { Audits (audit_asked (audit_of known_bits ask)) (effects result
         (change (F.state shelf.old) (F.state shelf.new)) (change (O.state out.old) (O.state out.new))) }
 {
-    one_circuit();
-    accepted_logs_are_right();
-    one_answer();
-    match audit_files(rt, alloc, shelf, ask) {
-        Ok(finding) => say_finding(alloc, out, &finding),
-        Err(stop) => say_stop(alloc, out, stop),
-    }
+    let names = AuditNames::of_bits(ask);
+    run_named(rt, alloc, shelf, out, &names)
+}
+
+/// `audit-arith CIRCUIT OUTPUTS PROVERFILE VERIFIERFILE LOG`: the same of a session about an arithmetic circuit, whose outputs stand in a file.
+pub fn run_audit_arith<R: Threads + Sync, F: Shelf, O: Sink>(
+    rt: &R,
+    alloc: Global,
+    shelf: &mut F,
+    out: &mut O,
+    ask: AuditArithAsk<String>,
+) -> u8
+    ensures { Audits (audit_of_arith (audit_arith_of ask)) (effects result
+        (change (F.state shelf.old) (F.state shelf.new)) (change (O.state out.old) (O.state out.new))) }
+{
+    let names = AuditNames::of_elements(ask);
+    run_named(rt, alloc, shelf, out, &names)
 }

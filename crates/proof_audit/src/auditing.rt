@@ -1,9 +1,7 @@
 // The finding of a log.
-ghost use Rattle.std.specs.Prelude.{◌≡◌, ◌≤◌, ◌^◌, length, map, IfErr, IfOk};
-ghost use Rattle.zk_model.specs.Bits.{from_bit};
-ghost use Rattle.zk_model.specs.Bytes.{AreBytes};
+ghost use Rattle.std.specs.Prelude.{◌≡◌, ◌^◌, length, IfErr, IfOk};
 ghost use Rattle.zk_model.specs.ServedVerifier.{VerifierTask};
-ghost use Rattle.proof_audit.specs.Audits.{IsAudited, FileGives, AuditFinds, AuditCause, audit_task};
+ghost use Rattle.proof_audit.specs.Audits.{IsAudited, FileGives, AuditFinds, AuditCause, Fits, audit_task};
 ghost use Rattle.proof_audit.specs.Stages.{transcript_read};
 ghost use Rattle.proof_audit.specs.declared.fault.AuditFault.TheVariants as causes;
 
@@ -12,13 +10,11 @@ use crate::judge::Judge;
 use crate::log::read_session;
 use crate::pairs::seen_pairs;
 use crate::search::{first_wrong_output, first_wrong_section};
-use crate::seen::SeenWires;
+use crate::seen::{SeenWires, corrected_values};
 use crate::session::Session;
-use bristol_reader::Circuit;
 use check_findings::Finding;
-use circuit_laws::products_are_numbered;
 use dealer_files::{NotDealt, ProverFile, VerifierFile, dealt};
-use session_core::{CircuitClaim, Statement};
+use session_core::Statement;
 use std::alloc::{AllocError, Global};
 
 impl From<NotDealt> for AuditFault {
@@ -29,18 +25,15 @@ impl From<NotDealt> for AuditFault {
     }
 }
 
-/// What the prover's file and an accepted session about these outputs give: by the first section with an error, or else by the
-/// first opened wire that is not as claimed, or else by the inputs.
+/// What the prover's file and an accepted session about this statement give: by the first section with an error, or else by the first
+/// opened wire that is not as claimed, or else by the inputs.
 fn session_finding(
     alloc: Global,
     statement: &Statement<'_>,
-    outputs: &[bool],
     prover: &ProverFile,
     verifier: &VerifierFile,
     session: &Session,
 ) -> Result<Finding, AllocError>
-    requires claims { statement.now.claims ≡ map from_bit outputs.now }
-    requires checked { statement.now.program.givens ≤ length statement.now.program.products }
     requires audited { (task : VerifierTask) × (task.statement ≡ statement.now)
         × IsAudited prover.now task session.now × (task.file ≡ verifier.now) }
     ensures { IfOk result (λ finding. (task : VerifierTask) → task.statement ≡ statement.now
@@ -56,50 +49,40 @@ fn session_finding(
     if let Some(finding) = of_section {
         return Ok(finding);
     }
-    let of_output = first_wrong_output(alloc, &wires, session, outputs)?;
+    let of_output = first_wrong_output(alloc, &wires, session, statement.claims())?;
     if let Some(finding) = of_output {
         return Ok(finding);
     }
-    let bits = wires.inputs(alloc)?;
-    Ok(Finding::Inputs(bits))
+    let count = wires.program().inputs();
+    let inputs = corrected_values(alloc, pairs, &session.corrections, count)?;
+    Ok(Finding::Inputs(inputs))
 }
 
-/// What the log of a session proves about the outputs of a circuit, of whose text this is the digest, at these public bits, given
-/// both dealt files: the private inputs, or a polynomial that had to have the challenge or the key as a root, or that no session was
-/// accepted (Weng, Yang, Katz and Wang, Wolverine, IEEE S&P 2021; Yang, Sarkar, Weng and Wang, QuickSilver, ACM CCS 2021).
+/// What the log of a session proves about a statement, given both dealt files: the private inputs, or a polynomial that had to have the
+/// challenge or the key as a root, or that no session was accepted (Weng, Yang, Katz and Wang, Wolverine, IEEE S&P 2021; Yang, Sarkar, Weng
+/// and Wang, QuickSilver, ACM CCS 2021).
 ///
 /// # Errors
 ///
 /// `NotDealt` where the files are not of one dealing, `LogFault` where the log has a fault, `NoMemory`.
 pub fn audit(
     alloc: Global,
-    circuit: Circuit,
-    digest: [u8; 32],
-    public: &[bool],
-    outputs: &[bool],
+    statement: &Statement<'_>,
     prover: &ProverFile,
     verifier: &VerifierFile,
     log: &[u8],
 ) -> Result<Finding, AuditFault>
-    requires digest { AreBytes 32 digest }
-    requires public { length public.now ≤ circuit.inputs }
-    requires outputs { length outputs.now ≡ circuit.outputs }
-    ensures finding { IfOk result (AuditFinds circuit public.now outputs.now prover.now
-        (audit_task circuit digest public.now outputs.now verifier.now) log.now) }
-    ensures fault { IfErr result (AuditCause prover.now
-        (audit_task circuit digest public.now outputs.now verifier.now) log.now) }
+    ensures finding { IfOk result (AuditFinds (Fits statement.now) prover.now
+        (audit_task statement.now verifier.now) log.now) }
+    ensures fault { IfErr result (AuditCause prover.now (audit_task statement.now verifier.now) log.now) }
 {
-    products_are_numbered();
-    let _circuit = circuit.wires();
     let _prover = prover.total();
     let _verifier = verifier.total();
     dealt(prover, verifier)?;
-    let claim = CircuitClaim::new(alloc, circuit, digest, public, outputs)?;
-    let statement = claim.statement();
-    let judge = Judge::new(&statement, verifier);
+    let judge = Judge::new(statement, verifier);
     let Some(session) = read_session(alloc, &judge, log)? else {
         return Ok(Finding::NotAccepted);
     };
-    let finding = session_finding(alloc, &statement, outputs, prover, verifier, &session)?;
+    let finding = session_finding(alloc, statement, prover, verifier, &session)?;
     Ok(finding)
 }

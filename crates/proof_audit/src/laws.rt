@@ -12,7 +12,8 @@ pub fn accepted_logs_are_right()
 {}
 
 /// What is found in a log shows of its session what an accepted one shows of a circuit's outputs: private bits that, beside the
-/// public ones, make the circuit give them, or a root at the challenge, or one at the key (Yang, Sarkar, Weng and Wang, QuickSilver, ACM CCS 2021).
+/// public ones, make a Boolean circuit give them, or elements that make an arithmetic one give them and meet its assertions; or a root at
+/// the challenge, or one at the key (Yang, Sarkar, Weng and Wang, QuickSilver, ACM CCS 2021).
 pub fn found_shows_outputs()
     ensures { FoundShowsOutputs }
 {}

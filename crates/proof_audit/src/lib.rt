@@ -4,12 +4,13 @@
 //! `auditing` has `audit`, and `fault` why there is no finding. `reading` reads frames from a log's bytes, `judge` says which of them
 //! are given, and `log` reads a `session` with both. `pairs` has the pairs that the prover's file and a session fix, `seen` those of all
 //! wires, and `search` the first section or opened wire that shows something. `laws` says what a log can be at once, and
-//! `audit_command` has the command `audit`.
+//! `audit_command` has the commands `audit` and `audit-arith`, whose words `audit_names` keeps.
 //!
-//!     let finding = audit(alloc, &circuit, digest, &public, &outputs, &prover, &verifier, &log)?;
+//!     let finding = audit(alloc, &claim.statement(), &prover, &verifier, &log)?;
 #![tactic(auto)]
 
 mod audit_command;
+mod audit_names;
 mod auditing;
 mod fault;
 mod judge;
@@ -22,7 +23,7 @@ mod seen;
 mod session;
 mod values;
 
-pub use audit_command::run_audit;
+pub use audit_command::{run_audit, run_audit_arith};
 pub use auditing::audit;
 pub use check_findings::Finding;
 pub use fault::AuditFault;

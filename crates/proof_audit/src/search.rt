@@ -1,6 +1,5 @@
 // The first section with an error, and the first opened wire that is not as claimed.
-ghost use Rattle.std.specs.Prelude.{◌≡◌, ◌+◌, ◌<◌, ◌≤◌, ◌^◌, ℕ, List, drop, length, map, slice_index, slice_index_or, IfNone, IfOk, IfSome};
-ghost use Rattle.zk_model.specs.Bits.{from_bit};
+ghost use Rattle.std.specs.Prelude.{◌≡◌, ◌+◌, ◌<◌, ◌≤◌, ◌^◌, ℕ, List, drop, length, slice_index, slice_index_or, IfNone, IfOk, IfSome};
 ghost use Rattle.zk_model.specs.Check.{opened_pairs, section_triples, IsFirstFailure};
 ghost use Rattle.zk_model.specs.Mac.{Pair as model, pair_at};
 ghost use Rattle.zk_model.specs.Polynomial.{IsZero};
@@ -12,7 +11,7 @@ ghost use Rattle.proof_audit.specs.Searches.{SectionsMeet, OpeningsMeet, NoError
 use crate::seen::SeenWires;
 use crate::session::Session;
 use check_findings::{Finding, opening_finding, section_finding};
-use mersenne_field::Pair;
+use mersenne_field::{Fe, Pair};
 use std::alloc::{AllocError, Global};
 
 /// What a section shows, with the section's number.
@@ -106,17 +105,16 @@ pub(crate) fn first_wrong_output(
     alloc: Global,
     wires: &SeenWires<'_>,
     session: &Session,
-    outputs: &[bool],
+    claims: &[Fe],
 ) -> Result<Option<Finding>, AllocError>
     requires openings { length session.now.openings.items ≡ length wires.now.program.opened }
-    requires outputs { length outputs.now ≡ length wires.now.program.opened }
-    requires met { OpeningsMeet wires.now session.now.openings.items (map from_bit outputs.now) }
-    ensures none { IfOk result (λ shown. IfNone shown (AreAsClaimedBefore wires.now (map from_bit outputs.now)
+    requires claims { length claims.now ≡ length wires.now.program.opened }
+    requires met { OpeningsMeet wires.now session.now.openings.items claims.now }
+    ensures none { IfOk result (λ shown. IfNone shown (AreAsClaimedBefore wires.now claims.now
         (length wires.now.program.opened))) }
-    ensures some { IfOk result (λ shown. IfSome shown (ShowsFirstOpening wires.now (map from_bit outputs.now)
-        session.now)) }
+    ensures some { IfOk result (λ shown. IfSome shown (ShowsFirstOpening wires.now claims.now session.now)) }
 {
-    for (o, claimed) in outputs.iter().enumerate() {
+    for (o, claimed) in claims.iter().enumerate() {
         let output = wires.output(o);
         let shown = opening_finding(alloc, output, session.openings[o], *claimed)?;
         if let Some(finding) = shown {

@@ -1,11 +1,12 @@
 // The values and MACs of all wires, as the prover's pairs and its corrections fix them.
-ghost use Rattle.std.specs.Prelude.{◌≡◌, ◌↔◌, ◌<◌, ◌≤◌, length, map, take, All, IfOk, IsTrue, nat_eq, slice_get, Some};
+ghost use Rattle.std.specs.Prelude.{◌≡◌, ◌↔◌, ◌<◌, ◌≤◌, length, All, IfOk, IsTrue, slice_get, Some};
 ghost use Rattle.zk_model.specs.Field.{IsElement};
 ghost use Rattle.zk_model.specs.Mac.{pair_at, values_of, macs_of, corrected_pairs};
 ghost use Rattle.zk_model.specs.Check.{ArePairsOf, error_polynomial, opened_pairs, product_error, product_triple, section_triples};
 ghost use Rattle.zk_model.specs.Polynomial.{IsZero};
 ghost use Rattle.zk_model.specs.Program.{section_count};
 ghost use Rattle.zk_model.specs.declared.Product as zk;
+ghost use Rattle.proof_audit.specs.SeenValues.{corrected_values};
 
 use crate::values::values_of;
 use field_program::FieldProgram;
@@ -34,6 +35,23 @@ impl<'a> Model for SeenWires<'a> {
     } };
 
     ghost invariant = { λ w. seen.AreSideBySide w.values w.macs };
+}
+
+/// So many first values of pairs, each with its correction added.
+pub(crate) fn corrected_values(
+    alloc: Global,
+    pairs: &[Pair],
+    corrections: &[Fe],
+    count: usize,
+) -> Result<Vec<Fe>, AllocError>
+    ensures { IfOk result (λ values. values.items ≡ corrected_values count pairs.now corrections.now) }
+{
+    pairs
+        .iter()
+        .zip(corrections)
+        .take(count)
+        .map(|(pair, correction)| pair.x + *correction)
+        .collect(alloc)
 }
 
 /// The MACs of pairs.
@@ -163,27 +181,5 @@ impl<'a> SeenWires<'a> {
             }
         }
         true
-    }
-
-    /// The private inputs as bits, of a program in which each given value is that of a product.
-    ///
-    /// # Errors
-    ///
-    /// Only where memory runs out.
-    pub fn inputs(&self, alloc: Global) -> Result<Vec<bool>, AllocError>
-        requires given { length self.now.pairs.given ≡ self.now.program.givens }
-        requires checked { self.now.program.givens ≤ length self.now.program.products }
-        ensures { IfOk result (λ bits. bits.items ≡ map (λ x. nat_eq x 1)
-            (take self.now.program.inputs (values_of self.now.pairs.given))) }
-    {
-        let program = self.values.program();
-        let _products = program.products();
-        let count = program.inputs();
-        let mut bits = Vec::with_capacity(alloc, count)?;
-        for i in 0..count {
-            let Triple { c, .. } = self.triple(i);
-            bits.push(c.x == Fe::ONE)?;
-        }
-        Ok(bits)
     }
 }

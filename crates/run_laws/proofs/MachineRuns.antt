@@ -21,7 +21,7 @@ use Rattle.claim_store.specs.Claims.{AreClaims}
 use Rattle.session_pool.specs.Notes.{AreGrantsApart, IsBetween}
 use Rattle.session_core.specs.Jobs.{VerifierJob, VerifierJobs, all_jobs, noted_job, units_of_job}
 use Rattle.session_verifier.specs.declared.note.SessionNote.{SessionNote}
-use Rattle.statement_file.specs.Services.{Service}
+use Rattle.claim_files.specs.Services.{Service}
 use Rattle.zk_port.specs.Disks.{DiskState}
 use Rattle.zk_port.specs.Files.{Files}
 use Rattle.zk_cli.specs.ServeRuns.{TakeFewUnits, units_of_note}

@@ -7,7 +7,7 @@ use Rattle.lease_store.specs.Ceilings.{FindsCeiling, SaysCeiling, last_ceiling}
 use Rattle.lease_store.proofs.Finding.{one_ceiling, says_found}
 use Rattle.session_pool.specs.Notes.{AreGrantsApart, IsBetween}
 use Rattle.session_verifier.specs.declared.note.SessionNote.{SessionNote}
-use Rattle.statement_file.specs.Services.{Service}
+use Rattle.claim_files.specs.Services.{Service}
 use Rattle.zk_cli.specs.ServeRuns.{units_of_note}
 use Rattle.run_laws.specs.RunsInTurn.{Granted, IsOver, KeepsUp, MayBeFound, RunsGrantOnce}
 

@@ -16,7 +16,7 @@ use Rattle.lease_store.specs.Storing.{Stores}
 use Rattle.twin_journal.specs.States.{TwinState}
 use Rattle.claim_store.specs.Claims.{AreClaims}
 use Rattle.session_verifier.specs.declared.note.SessionNote.{SessionNote}
-use Rattle.statement_file.specs.Services.{Service}
+use Rattle.claim_files.specs.Services.{Service}
 use Rattle.run_laws.specs.RunsInTurn.{Granted, IsOver, MayBeFound, MayBeLeft}
 
 -- ---- runs of `serve`

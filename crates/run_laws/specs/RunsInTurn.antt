@@ -9,7 +9,7 @@ use Rattle.lease_store.specs.Ceilings.{SaysCeiling}
 use Rattle.claim_store.specs.declared.ClaimFault.{ClaimFault}
 use Rattle.session_pool.specs.Notes.{AreGrantsApart}
 use Rattle.session_verifier.specs.declared.note.SessionNote.{SessionNote}
-use Rattle.statement_file.specs.Services.{Service}
+use Rattle.claim_files.specs.Services.{Service}
 use Rattle.file_commands.specs.ClaimedUnits.{FindsClaims, KeepsClaims, JournalPlace}
 use Rattle.file_commands.specs.Journals.{DiskChange, disk_change}
 use Rattle.zk_cli.specs.ServedNotes.{GrantsOnce}

@@ -3,7 +3,6 @@ ghost use Rattle.std.specs.Prelude.{◌≡◌, ◌≤◌, length};
 
 use crate::cases::Case;
 use crate::program_ends::Claimed;
-use crate::say::Bits;
 use crate::scenario::Dealt;
 use crate::scene::params_of;
 use crate::sessions::SEED;
@@ -12,6 +11,7 @@ use bristol_reader::Circuit;
 use dealer_files::{ProverFile, VerifierFile, deal};
 use mersenne_field::Fe;
 use proof_audit::{AuditFault, Finding, audit};
+use session_core::CircuitClaim;
 use std::alloc::Global;
 use std::fmt;
 
@@ -23,6 +23,24 @@ struct Audited<'a> {
     outputs: &'a [bool],
     prover: &'a ProverFile,
     verifier: &'a VerifierFile,
+}
+
+/// Inputs that are bits, as a word, or `none` where there are none.
+#[derive(Clone, Copy)]
+struct FoundBits<'a> {
+    inputs: &'a [Fe],
+}
+
+impl fmt::Display for FoundBits<'_> {
+    fn fmt<W: fmt::Write>(&self, f: &mut fmt::Formatter<W>) -> fmt::Result {
+        if self.inputs.is_empty() {
+            return write!(f, "none");
+        }
+        for input in self.inputs {
+            write!(f, "{}", if *input == Fe::ONE { "1" } else { "0" })?;
+        }
+        Ok(())
+    }
 }
 
 /// What an audit found, or why it found nothing.
@@ -43,9 +61,9 @@ fn write_coefficients<W: fmt::Write>(f: &mut fmt::Formatter<W>, polynomial: &[Fe
 impl fmt::Display for Answered {
     fn fmt<W: fmt::Write>(&self, f: &mut fmt::Formatter<W>) -> fmt::Result {
         match &self.answer {
-            Ok(Finding::Inputs(bits)) => {
-                let bits = Bits {
-                    bits: bits.as_slice(),
+            Ok(Finding::Inputs(inputs)) => {
+                let bits = FoundBits {
+                    inputs: inputs.as_slice(),
                 };
                 write!(f, "inputs:{bits}")
             }
@@ -83,9 +101,8 @@ fn answer_about(alloc: Global, audited: &Audited<'_>, log: &[u8]) -> Result<Answ
         verifier,
     } = *audited;
     let circuit = circuit.copied(alloc)?;
-    let answer = audit(
-        alloc, circuit, [0; 32], public, outputs, prover, verifier, log,
-    );
+    let claim = CircuitClaim::new(alloc, circuit, [0; 32], public, outputs)?;
+    let answer = audit(alloc, &claim.statement(), prover, verifier, log);
     Ok(Answered { answer })
 }
 

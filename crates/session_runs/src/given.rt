@@ -38,10 +38,10 @@ fn circuit_text(alloc: Global, text: &[u8], files: &GivenFiles<'_>) -> Result<Ve
     Ok(text)
 }
 
-/// The text of a file of statements, in which `+` stands for a space, and `/` for the end of a line.
-fn statements_text(alloc: Global, statements: &str) -> Result<Vec<u8>> {
+/// The text of a word in which `+` stands for a space, and `/` for the end of a line.
+fn word_text(alloc: Global, word: &str) -> Result<Vec<u8>> {
     let mut text = Vec::new(alloc);
-    for byte in statements.bytes() {
+    for byte in word.bytes() {
         let byte = match byte {
             b'+' => b' ',
             b'/' => b'\n',
@@ -106,7 +106,7 @@ fn put_dealt(
     put(alloc, files, "x.verifier", bytes)
 }
 
-/// Puts the circuit under its name, and the file of statements and the log that are stated.
+/// Puts the circuit under its name, and the files of statements, of values and of outputs and the log that are stated.
 fn put_stated(
     alloc: Global,
     files: &mut BTreeMap<String, Vec<u8>>,
@@ -119,8 +119,10 @@ fn put_stated(
         alloc,
         files,
         "statements",
-        statements_text(alloc, given.statements)?,
+        word_text(alloc, given.statements)?,
     )?;
+    put(alloc, files, "values", word_text(alloc, given.values)?)?;
+    put(alloc, files, "claimed", word_text(alloc, given.claimed)?)?;
     put(alloc, files, "log", hex::decode(alloc, given.log)?)
 }
 

@@ -12,7 +12,7 @@
 //! | `audit` | audits of the log of a rehearsal, whose bytes are as the words of the peer's bytes say |
 //! | `service` | runs of `serve`, with peers at the door one after the other |
 //! | `proof` | runs of `prove`, whose door connects to one peer |
-//! | `run` | a run of the program, with nobody at the door |
+//! | `run` | a run of the program of any words, with nobody at the door but who is stated |
 //!
 //! A line `zk WORDS` is a command line, its words apart by single spaces, that is run over the files and journals of the folder in which
 //! the program runs, with nobody at the door. The line is written, then what the command writes, and the status that it ends with.
@@ -41,8 +41,8 @@
 //! this number, counted from 1, and `lack=A..B` has it find no memory.
 //!
 //! What a run of the program is given; `x.prover` and `x.verifier` are the dealt files, the circuit stands under its name, and the disk
-//! has the journal of one of the files, of which it tells nothing: the prover's where the words begin with `prove` or `migrate,prover`,
-//! else the verifier's. Behind a journal of one area it has room for one of two.
+//! has the journal of one of the files, of which it tells nothing: the prover's where the words begin with `prove`, `prove-arith` or
+//! `migrate,prover`, else the verifier's. Behind a journal of one area it has room for one of two.
 //!
 //! | Word | What it says | Else |
 //! |---|---|---|
@@ -62,6 +62,7 @@
 //! | `shelf-fails=N`, `sink-fails=N`, `door-fails=N`, `disk-fails=N` | the number of the call that fails, counted from 1 | none |
 //! | `shelf-lacks=N`, `sink-lacks=N`, `door-lacks=N` | the number of the call that finds no memory, counted from 1 | none |
 //! | `statements=TEXT` | the text of the file `statements`, in which `+` is a space, and `/` the end of a line; a service is then that of `serve-many` | empty |
+//! | `values=TEXT`, `claimed=TEXT` | the texts of the files `values` and `claimed`, of elements, with `+` and `/` likewise | empty |
 //! | `log=HEX` | the bytes of the file `log` | none |
 //! | `crash=LEFT` | what a crash after the run leaves of each write since the last sync: `old`, `new`, or a byte all over it; the run is then made again over that disk | no crash |
 //! | `show=NAME,NAME..` | the files of which the line says how many bytes stand there, and SHA-256 of them, or with `NAME:N` of the first N; `disk` for the disk | none |
@@ -80,6 +81,8 @@
 //! | `peer=N` | the number of the peer that the words are about, counted from 0 | 0 |
 //!
 //! The peer of a proof is an honest verifier that grants units from `start` on, but for what the words of its bytes and of its link say.
+//! The peers of a run of any words, who call or, in a proof, are called, are stated: `calls=HEX,HEX..` has what each sends, and the words of
+//! a peer's bytes and of its link are about one of them.
 //!
 //! A line of a run has its number, where there is a range; the status; what is written, and what is said to who follows it; what is handed back, with the outcome, the units
 //! and the log of each session; and the files that are shown.

@@ -1,11 +1,11 @@
-// Runs of the program as either end of sessions, with peers whose bytes are stated.
+// Runs of the program, as either end of sessions with peers whose bytes are stated.
 ghost use Rattle.std.specs.Prelude.{IfOk};
 ghost use Rattle.zk_port.specs.Doors.{IsFreshLink};
 
 use crate::cases::{Case, cases_of, link_of};
 use crate::given::words_of;
 use crate::piece_link::PieceLink;
-use crate::runs::{Doors, Peers, empty_door, run_lines};
+use crate::runs::{Doors, Peers, empty_door, is_proof, run_lines};
 use crate::say::Bits;
 use crate::scenario::{NOTHING_REFUSED, Scenario, Service};
 use anyhow::Result;
@@ -103,21 +103,29 @@ fn peer_link(
     link_of(alloc, honest.to_vec(alloc)?, NOTHING_REFUSED, 4096)
 }
 
-/// A door at which the peers of a service call: the one of the stated number does what is stated, and the others are honest.
-fn service_door(
+/// A door at which these peers call, or where the words are those of a proof, to which it connects: the one of the stated number does what
+/// is stated, and the others are honest.
+fn peers_door(
     alloc: Global,
     scenario: &Scenario<'_>,
     honest: &[Vec<u8>],
+    words: &[String],
     stated: &Case,
 ) -> Result<Peers> {
     let mut door = empty_door(alloc, scenario)?;
+    let connects = is_proof(words);
     for (number, script) in honest.iter().enumerate() {
-        door.wait(peer_link(alloc, scenario, number, script, stated)?)?;
+        let link = peer_link(alloc, scenario, number, script, stated)?;
+        if connects {
+            door.call(link)?;
+        } else {
+            door.wait(link)?;
+        }
     }
     Ok(door)
 }
 
-/// The lines of a run of the program that serves a claim, at which one peer does what is stated.
+/// The lines of a run of these words, of whose peers one does what is stated.
 fn stated_lines<R: Threads + Wait + Sync>(
     rt: &R,
     alloc: Global,
@@ -127,10 +135,29 @@ fn stated_lines<R: Threads + Wait + Sync>(
     stated: &Case,
 ) -> Result<String> {
     let doors = Doors {
-        first: service_door(alloc, scenario, honest, stated)?,
-        again: service_door(alloc, scenario, honest, stated)?,
+        first: peers_door(alloc, scenario, honest, words, stated)?,
+        again: peers_door(alloc, scenario, honest, words, stated)?,
     };
     run_lines(rt, alloc, scenario, &stated.name, doors, words)
+}
+
+/// The lines of runs of these words, with these peers: of each its honest bytes.
+fn peers_lines<R: Threads + Wait + Sync>(
+    rt: &R,
+    alloc: Global,
+    scenario: &Scenario<'_>,
+    honest: &[Vec<u8>],
+    words: &[String],
+) -> Result<String> {
+    let script = match honest.get(scenario.service.peer as usize) {
+        Some(script) => script.as_slice(),
+        None => &[],
+    };
+    let mut lines = String::new(alloc);
+    for stated in &cases_of(alloc, &scenario.peer, script)? {
+        lines.push_str(&stated_lines(rt, alloc, scenario, honest, words, stated)?)?;
+    }
+    Ok(lines)
 }
 
 /// The lines of runs of the program that serve a claim, with these peers at the door: for each its honest bytes.
@@ -140,40 +167,8 @@ pub fn service_lines<R: Threads + Wait + Sync>(
     claimed: &Claimed<'_, '_>,
     honest: &[Vec<u8>],
 ) -> Result<String> {
-    let scenario = claimed.scenario;
     let words = service_words(alloc, claimed)?;
-    let script = match honest.get(scenario.service.peer as usize) {
-        Some(script) => script.as_slice(),
-        None => &[],
-    };
-    let mut lines = String::new(alloc);
-    for stated in &cases_of(alloc, &scenario.peer, script)? {
-        lines.push_str(&stated_lines(rt, alloc, scenario, honest, &words, stated)?)?;
-    }
-    Ok(lines)
-}
-
-/// A door that connects to the peer of this case.
-fn proof_door(alloc: Global, scenario: &Scenario<'_>, case: &Case) -> Result<Peers> {
-    let mut door = empty_door(alloc, scenario)?;
-    let script = case.script.to_vec(alloc)?;
-    door.call(link_of(alloc, script, case.refused, case.piece)?)?;
-    Ok(door)
-}
-
-/// The lines of a run of the program that proves a claim to the peer of this case.
-fn case_lines<R: Threads + Wait + Sync>(
-    rt: &R,
-    alloc: Global,
-    scenario: &Scenario<'_>,
-    words: &[String],
-    case: &Case,
-) -> Result<String> {
-    let doors = Doors {
-        first: proof_door(alloc, scenario, case)?,
-        again: proof_door(alloc, scenario, case)?,
-    };
-    run_lines(rt, alloc, scenario, &case.name, doors, words)
+    peers_lines(rt, alloc, claimed.scenario, honest, &words)
 }
 
 /// The words of a proof of a claim.
@@ -195,11 +190,28 @@ pub fn proof_lines<R: Threads + Wait + Sync>(
     claimed: &Claimed<'_, '_>,
     honest: &[u8],
 ) -> Result<String> {
-    let scenario = claimed.scenario;
     let words = proof_words(alloc, claimed)?;
-    let mut lines = String::new(alloc);
-    for case in &cases_of(alloc, &scenario.peer, honest)? {
-        lines.push_str(&case_lines(rt, alloc, scenario, &words, case)?)?;
+    let mut peers = Vec::new(alloc);
+    peers.push(honest.to_vec(alloc)?)?;
+    peers_lines(rt, alloc, claimed.scenario, &peers, &words)
+}
+
+/// What peers send, in hex, with commas between.
+fn called_scripts(alloc: Global, calls: &str) -> Result<Vec<Vec<u8>>> {
+    let mut scripts = Vec::new(alloc);
+    for script in calls.split(',').filter(|script| !script.is_empty()) {
+        scripts.push(hex::decode(alloc, script)?)?;
     }
-    Ok(lines)
+    Ok(scripts)
+}
+
+/// The lines of runs of a scenario's words, with the peers whose bytes are stated.
+pub fn words_lines<R: Threads + Wait + Sync>(
+    rt: &R,
+    alloc: Global,
+    scenario: &Scenario<'_>,
+) -> Result<String> {
+    let words = words_of(alloc, scenario, scenario.outside.words)?;
+    let scripts = called_scripts(alloc, scenario.service.calls)?;
+    peers_lines(rt, alloc, scenario, &scripts, &words)
 }

@@ -1,5 +1,5 @@
 // Runs of the program over files, an output, a door and a journal's disk in memory.
-use crate::given::{Given, given_again, given_of, words_of};
+use crate::given::{Given, given_again, given_of};
 use crate::piece_link::{PieceLink, plan_of};
 use crate::say::{Bits, Ending, Hex, Logged, Units, prover_ending, verifier_ending};
 use crate::scenario::{NO_REFUSED_CALLS, RefusedCalls, Scenario};
@@ -304,30 +304,23 @@ pub fn run_lines<R: Threads + Wait + Sync>(
     Ok(lines)
 }
 
-/// The kind of the journal that the disk has: `prove`, `migrate prover` and `status` of a prover's file are about the prover's.
+/// Whether words begin with a command that proves.
+pub fn is_proof(words: &[String]) -> bool {
+    let first = words.iter().next().map_or("", String::as_str);
+    first == "prove" || first == "prove-arith"
+}
+
+/// The kind of the journal that the disk has: proofs, `migrate prover` and `status` of a prover's file are about the prover's.
 fn kind_of(words: &[String]) -> JournalKind {
+    let proves = is_proof(words);
     let mut words = words.iter();
     let first = words.next().map_or("", String::as_str);
     let second = words.next().map_or("", String::as_str);
-    if first == "prove"
+    if proves
         || (first == "migrate" && second == "prover")
         || (first == "status" && second.ends_with(".prover"))
     {
         return JournalKind::Claims;
     }
     JournalKind::Ceilings
-}
-
-/// The lines of a run of a scenario's words, with nobody at the door.
-pub fn words_lines<R: Threads + Wait + Sync>(
-    rt: &R,
-    alloc: Global,
-    scenario: &Scenario<'_>,
-) -> Result<String> {
-    let words = words_of(alloc, scenario, scenario.outside.words)?;
-    let doors = Doors {
-        first: empty_door(alloc, scenario)?,
-        again: empty_door(alloc, scenario)?,
-    };
-    run_lines(rt, alloc, scenario, "", doors, &words)
 }

@@ -105,7 +105,7 @@ pub struct Journaled<'a> {
 
 /// The files that a run of the program is given: text that stands behind the circuit's, and the size up to which line feeds follow it; the
 /// versions of the dealt files, the prover's and the verifier's, how many bytes both have, where these are not all, and the bytes of both
-/// that are others; the text of the file of statements; and the log, in hex.
+/// that are others; the texts of the files of statements, of input values and of claimed outputs; and the log, in hex.
 #[derive(Clone, Copy)]
 pub struct GivenFiles<'a> {
     pub tail: &'a str,
@@ -114,6 +114,8 @@ pub struct GivenFiles<'a> {
     pub dealt_size: Option<usize>,
     pub damage: &'a str,
     pub statements: &'a str,
+    pub values: &'a str,
+    pub claimed: &'a str,
     pub log: &'a str,
 }
 
@@ -138,8 +140,8 @@ pub struct Outside<'a> {
     pub show: &'a str,
 }
 
-/// What a service is asked for: the words of its options, which are not among its words where they are empty; how many peers call, and
-/// the number of the one whose bytes and link are stated, counted from 0.
+/// What a service is asked for: the words of its options, which are not among its words where they are empty; how many peers call; what
+/// those of a run of any words send, in hex; and the number of the one whose bytes and link are stated, counted from 0.
 #[derive(Clone, Copy)]
 pub struct Service<'a> {
     pub sessions: &'a str,
@@ -147,6 +149,7 @@ pub struct Service<'a> {
     pub logs: &'a str,
     pub follows: bool,
     pub peers: u64,
+    pub calls: &'a str,
     pub peer: u64,
 }
 
@@ -187,6 +190,8 @@ const PLAIN_FILES: GivenFiles<'static> = GivenFiles {
     dealt_size: None,
     damage: "",
     statements: "",
+    values: "",
+    claimed: "",
     log: "",
 };
 
@@ -241,6 +246,7 @@ fn plain(end: End) -> Scenario<'static> {
             logs: "",
             follows: false,
             peers: 1,
+            calls: "",
             peer: 0,
         },
     }
@@ -371,6 +377,8 @@ fn set_files<'a>(outside: &mut Outside<'a>, name: &str, value: &'a str) -> Resul
         "dealt-size" => files.dealt_size = Some(number(value)? as usize),
         "damage" => files.damage = value,
         "statements" => files.statements = value,
+        "values" => files.values = value,
+        "claimed" => files.claimed = value,
         "log" => files.log = value,
         _ => set_journal(&mut outside.journal, name, value)?,
     }
@@ -426,6 +434,7 @@ fn set_service<'a>(scenario: &mut Scenario<'a>, name: &str, value: &'a str) -> R
         "logs" => scenario.service.logs = value,
         "follow" => scenario.service.follows = number(value)? == 1,
         "peers" => scenario.service.peers = number(value)?,
+        "calls" => scenario.service.calls = value,
         "peer" => scenario.service.peer = number(value)?,
         _ => set_outside(&mut scenario.outside, name, value)?,
     }

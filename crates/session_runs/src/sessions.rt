@@ -7,8 +7,7 @@ ghost use Rattle.zk_model.specs.declared.limits.TheConstants.{MAX_SECTION_LENGTH
 use crate::audits::audit_lines;
 use crate::cases::cases_of;
 use crate::ends::{EndJob, hold_dialogue, session_lines};
-use crate::program_ends::{Claimed, proof_lines, service_lines};
-use crate::runs::words_lines;
+use crate::program_ends::{Claimed, proof_lines, service_lines, words_lines};
 use crate::say::{Judged, Logged};
 use crate::scenario::{End, Scenario};
 use crate::scene::{InputBits, claimed_outputs, input_bits, params_of};

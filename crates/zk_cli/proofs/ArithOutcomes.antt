@@ -1,14 +1,14 @@
 -- What is handed back and said of a rehearsal of an arithmetic circuit gives what its record promises.
-use Rattle.std.proofs.Common.{◌≡◌, ◌⊎◌, ◌<◌, ◌≤◌, ◌∙◌, ℕ, List, length, refl, ap, sym, subst, inl, inr}
+use Rattle.std.proofs.Common.{◌≡◌, ◌⊎◌, ◌<◌, ◌≤◌, ◌∙◌, ℕ, List, refl, ap, sym, subst, inl, inr}
 use Rattle.arith_laws.proofs.OneList.{unmet}
 use Rattle.arith_reader.specs.Laws.{TextsAreExact}
 use Rattle.command_words.specs.Words.{RehearseArithAsk}
 use Rattle.element_file.specs.Laws.{ElementsAreExact}
-use Rattle.file_commands.proofs.ArithCauses.{arith_lacks, elements_lack, told_arith, told_elements}
+use Rattle.claim_files.proofs.ArithCauses.{arith_lacks, elements_lack, told_arith, told_elements}
 use Rattle.file_commands.proofs.Means.{any_answers, zero_answers}
-use Rattle.file_commands.specs.ArithFiles.{ArithStop, ElementsStop, IsArithFile, IsEither}
+use Rattle.claim_files.specs.ArithFiles.{ArithStop, ElementsStop, IsArithFile, IsEither}
 use Rattle.file_commands.specs.Effects.{Effects, HasFailed, NameFailed, OnlyLoads, ShelfChange}
-use Rattle.file_commands.specs.Stops.{IsOfStop, PrintsMade, stop_line, stop_status}
+use Rattle.file_commands.specs.Stops.{PrintsMade, stop_line, stop_status}
 use Rattle.file_commands.specs.declared.refusal.Refusal.{Refusal}
 use Rattle.file_commands.specs.declared.refusal.Refusal.TheVariants as stop
 use Rattle.session_rehearsal.proofs.Rehearsed.{sized_values}

@@ -7,9 +7,10 @@ use Rattle.zk_port.specs.Links.{LinkState}
 use Rattle.zk_port.specs.Shelves.{ShelfState}
 use Rattle.command_words.specs.BitWords.{Bits, BitsAsk, said, named}
 use Rattle.command_words.specs.Words.{Ask}
-use Rattle.command_words.specs.declared.asks.Ask.TheVariants.{Rehearse as rehearse, Generate as generate, RehearseArith as rehearse_arith, Eval as eval, Deal as deal, Serve as serve, ServeMany as serve_many, Prove as prove, Audit as audit, Migrate as migrate, Status as status}
-use Rattle.statement_file.specs.Services.{service_asked}
+use Rattle.command_words.specs.declared.asks.Ask.TheVariants.{Rehearse as rehearse, Generate as generate, RehearseArith as rehearse_arith, Eval as eval, Deal as deal, Serve as serve, ServeMany as serve_many, ServeArith as serve_arith, Prove as prove, ProveArith as prove_arith, Audit as audit, AuditArith as audit_arith, Migrate as migrate, Status as status}
+use Rattle.claim_files.specs.Services.{service_asked, service_of_arith}
 use Rattle.proof_audit.specs.AuditRuns.{Audits}
+use Rattle.proof_audit.specs.NamedAudits.{audit_asked, audit_of_arith}
 use Rattle.status_command.specs.StatusRuns.{Reports}
 use Rattle.file_commands.specs.DealRuns.{Deals}
 use Rattle.file_commands.specs.Effects.{Effects, OnlyLoads, ShelfChange, SinkChange, effects}
@@ -22,8 +23,9 @@ use Rattle.file_commands.specs.declared.refusal.Refusal.{Refusal}
 use Rattle.file_commands.specs.declared.refusal.Refusal.TheVariants as stop
 use Rattle.file_commands.proofs.Means.{IsHigh, stop_answers}
 use Rattle.zk_cli.specs.ManyRuns.{ServesMany}
-use Rattle.zk_cli.specs.Meets.{DoesGiven, GrantsOnceGiven, IsLocal, LacksBits, Meets, MeetsGiven, Promises, ShowsGiven, follows}
-use Rattle.zk_cli.specs.ProveRuns.{Proves}
+use Rattle.zk_cli.specs.Meets.{DoesGiven, IsLocal, LacksBits, Meets, Promises, follows}
+use Rattle.prove_command.specs.Proofs.{proof_asked, proof_of_arith}
+use Rattle.zk_cli.specs.ProvedParts.{ProvesPart}
 use Rattle.zk_cli.specs.ArithRuns.{RehearsesArith}
 use Rattle.zk_cli.specs.RehearseRuns.{Generates, Rehearses}
 use Rattle.zk_cli.specs.Runs.{Run, run_of}
@@ -71,9 +73,12 @@ module _ (why : Refusal) (low : stop_status why ≤ 2) (unloaded : (name : List 
   given_is_high (deal ask) shelf (inr cause) = absurd cause
   given_is_high (serve ask) shelf (inr cause) = claimed_are_high ask.circuit ask.public ask.outputs shelf cause
   given_is_high (serve_many ask) shelf (inr cause) = absurd cause
+  given_is_high (serve_arith ask) shelf (inr cause) = absurd cause
   given_is_high (prove ask) shelf (inr (inl cause)) = inputs_are_high ask.circuit ask.public ask.bits shelf cause
   given_is_high (prove ask) shelf (inr (inr (public, bits, one, two, cause))) = word_is_high ask.circuit Outputs ask.outputs shelf cause
+  given_is_high (prove_arith ask) shelf (inr cause) = absurd cause
   given_is_high (audit ask) shelf (inr cause) = claimed_are_high ask.circuit ask.public ask.outputs shelf cause
+  given_is_high (audit_arith ask) shelf (inr cause) = absurd cause
   given_is_high (migrate ask) shelf (inr cause) = absurd cause
   given_is_high (status ask) shelf (inr cause) = absurd cause
 
@@ -135,12 +140,15 @@ module _ {F L B D : Type 0} (shelf_tells : F → ShelfState) (door_tells : D →
   meets_on (rehearse_arith ask) meets = (held (λ run. RehearsesArith ask seed part run) meets.0, local_on meets.1)
   meets_on (eval ask) meets = (held (λ run. Evaluates ask run) meets.0, meets.1, local_on meets.2)
   meets_on (deal ask) meets = (held (λ run. Deals ask seed run) meets.0, meets.1, local_on meets.2)
-  meets_on (audit ask) meets = (held (λ run. Audits ask run) meets.0, meets.1, local_on meets.2)
+  meets_on (audit ask) meets = (held (λ run. Audits (audit_asked ask) run) meets.0, meets.1, local_on meets.2)
+  meets_on (audit_arith ask) meets = (held (λ run. Audits (audit_of_arith ask) run) meets.0, meets.1, local_on meets.2)
   meets_on (status ask) meets = (held (λ run. Reports ask disk run) meets.0, meets.1, meets.2)
   meets_on (migrate ask) meets = (held (λ run. Migrates ask disk run) meets.0, meets.1, meets.2)
   meets_on (serve ask) meets = held (λ run. Serves link_tells (service_asked ask) part disk (run_from old).door run) meets
   meets_on (serve_many ask) meets = held (λ run. ServesMany link_tells ask part disk (run_from old).door run) meets
-  meets_on (prove ask) meets = held (λ run. Proves link_tells ask part disk (run_from old).door run) meets
+  meets_on (serve_arith ask) meets = held (λ run. Serves link_tells (service_of_arith ask) part disk (run_from old).door run) meets
+  meets_on (prove ask) meets = held (λ run. ProvesPart link_tells (proof_asked ask) part disk (run_from old).door run) meets
+  meets_on (prove_arith ask) meets = held (λ run. ProvesPart link_tells (proof_of_arith ask) part disk (run_from old).door run) meets
 
   pub promises_on : (ask : Ask Bits) → Promises ask seed disk (run_from mid) → Promises ask seed disk (run_from old)
   promises_on ask promises = record {

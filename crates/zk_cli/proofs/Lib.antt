@@ -1,7 +1,5 @@
 pub mod ArithOutcomes
-pub mod Claiming
 pub mod Pairs
-pub mod ProveOutcomes
 pub mod Given
 pub mod Loading
 pub mod LeaseCauses

@@ -1,20 +1,18 @@
 -- Sessions that were granted units have logs of different names.
-use Rattle.std.proofs.Common.{◌≡◌, ◌≢◌, ◌≤◌, ◌<◌, ◌+◌, ◌^◌, ◌++◌, ℕ, Bool, List, All, Option, Some, None, IfSome, codes, max, get_or, inl, inr, arith}
+use Rattle.std.proofs.Common.{◌≡◌, ◌≢◌, ◌≤◌, ◌<◌, ◌^◌, ◌++◌, ℕ, Bool, List, Option, Some, None, IfSome, codes, max, get_or, inl, inr, arith}
 use Rattle.std.specs.Fmt.{decimal}
-use Rattle.std.specs.List.{AllPairs}
 use Rattle.std.proofs.lemmas.Fmt.{decimal_injective}
 use Rattle.std.proofs.lemmas.List.{append_cancel_left}
 use Rattle.zk_model.specs.declared.Span.{Span}
 use Rattle.zk_port.specs.Files.{Files}
 use Rattle.zk_port.specs.Links.{LinkState}
-use Rattle.session_core.specs.Jobs.{VerifierJobs}
 use Rattle.session_pool.specs.Notes.{AreGrantsApart, IsBetween}
 use Rattle.session_verifier.specs.ServiceLogs.{HaveApartNames, log_name}
 use Rattle.session_verifier.specs.declared.note.SessionNote.{SessionNote}
-use Rattle.statement_file.specs.Services.{Service}
+use Rattle.claim_files.specs.Services.{Service}
 use Rattle.file_commands.specs.Effects.{DoorChange}
 use Rattle.file_commands.specs.Journals.{DiskChange}
-use Rattle.zk_cli.specs.ServeRuns.{AreServeJobs, LeadsFiles, units_of_note}
+use Rattle.zk_cli.specs.ServeRuns.{LeadsFiles, units_of_note}
 use Rattle.zk_cli.proofs.Serving.{claim_job}
 
 -- two spans that have units, and none in common

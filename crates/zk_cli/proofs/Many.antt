@@ -8,7 +8,7 @@ use Rattle.zk_port.specs.Links.{LinkState}
 use Rattle.session_verifier.specs.declared.note.SessionNote.{SessionNote}
 use Rattle.command_words.specs.Words.{ServeManyAsk}
 use Rattle.statement_file.specs.Claims.{NamedClaim, HasFault, NamesClaims}
-use Rattle.statement_file.specs.Services.{Service, service_of_many}
+use Rattle.claim_files.specs.Services.{Service, service_of_many}
 use Rattle.statement_file.specs.declared.fault.StatementFault.TheVariants.{BadLine, Count}
 use Rattle.statement_file.proofs.OneReading.{no_fault, one_list}
 use Rattle.file_commands.specs.Effects.{DoorChange, Effects, IsName, NameFailed, OnlyLoads, ShelfChange}

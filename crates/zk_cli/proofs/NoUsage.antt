@@ -1,22 +1,33 @@
 -- No command ends with the status of words that ask for nothing.
-use Rattle.std.proofs.Common.{◌≡◌, ℕ, List, refl, sym, ◌∙◌, subst, inl, inr, arith}
+use Rattle.std.proofs.Common.{◌≡◌, ℕ, List, Option, None, Some, refl, sym, ◌∙◌, subst, inl, inr, arith}
 use Rattle.zk_port.specs.Links.{LinkState}
 use Rattle.dealer_files.specs.declared.fault.FileFault.TheVariants as file
+use Rattle.session_prover.specs.declared.note.ProverNote.{ProverNote}
 use Rattle.session_prover.specs.declared.note.ProverOutcome.{ProverOutcome}
 use Rattle.session_prover.specs.declared.note.ProverOutcome.TheVariants as ended
 use Rattle.command_words.specs.BitWords.{Bits}
-use Rattle.command_words.specs.Words.{Ask, ProveAsk, RehearseArithAsk, ServeManyAsk}
-use Rattle.command_words.specs.declared.asks.Ask.TheVariants.{Rehearse as rehearse, Generate as generate, RehearseArith as rehearse_arith, Eval as eval, Deal as deal, Serve as serve, ServeMany as serve_many, Prove as prove, Audit as audit, Migrate as migrate, Status as status}
-use Rattle.statement_file.specs.Services.{Service, service_asked}
+use Rattle.command_words.specs.Words.{Ask, RehearseArithAsk, ServeManyAsk}
+use Rattle.command_words.specs.declared.asks.Ask.TheVariants.{Rehearse as rehearse, Generate as generate, RehearseArith as rehearse_arith, Eval as eval, Deal as deal, Serve as serve, ServeMany as serve_many, ServeArith as serve_arith, Prove as prove, ProveArith as prove_arith, Audit as audit, AuditArith as audit_arith, Migrate as migrate, Status as status}
+use Rattle.claim_files.specs.Services.{Service, service_asked, service_of_arith}
 use Rattle.file_commands.specs.Effects.{DoorChange, Effects, ShelfChange}
 use Rattle.file_commands.specs.Journals.{DiskChange}
 use Rattle.file_commands.specs.Stops.{IsOfStop, StatusMeans, stop_status}
 use Rattle.file_commands.specs.declared.refusal.Refusal.{Refusal}
 use Rattle.file_commands.specs.declared.refusal.Refusal.TheVariants as stop
+use Rattle.proof_audit.specs.AuditRuns.{AuditMeans}
+use Rattle.proof_audit.specs.NamedAudits.{Audit, audit_asked, audit_of_arith}
 use Rattle.zk_cli.specs.ArithRuns.{ArithMeans, ArithRehearseStop}
+use Rattle.claim_files.proofs.ClaimCauses.{not_usage}
 use Rattle.zk_cli.specs.ManyRuns.{ServesMany, StatementsStop}
 use Rattle.zk_cli.specs.Meets.{Meets}
-use Rattle.zk_cli.specs.ProveRuns.{ProveMeans, ProveStop, proved_status}
+use Rattle.prove_command.specs.BitsProofs.{BitsProofStop}
+use Rattle.prove_command.specs.ElementsProofs.{ElementsProofStop}
+use Rattle.prove_command.specs.NamedProofs.{BitsProof, ElementsProof}
+use Rattle.prove_command.specs.Proofs.{Proof, proof_asked, proof_of_arith}
+use Rattle.prove_command.specs.ProveRuns.{ProveMeans, ProveStop, WitnessStop, proved_status}
+use Rattle.prove_command.specs.declared.proof.ProofNames.{ProofNames}
+use Rattle.prove_command.specs.declared.proof.ProofNames.TheVariants as names
+use Rattle.zk_cli.specs.ProvedParts.{ProvesPart}
 use Rattle.zk_cli.specs.Runs.{Run}
 use Rattle.zk_cli.specs.ServeRuns.{ServeMeans, ServeStop}
 use Rattle.zk_cli.specs.declared.finish.Part.{Part}
@@ -67,7 +78,7 @@ means_two Does Cause IsNamed run (inr (inr (inr (inr (nine, cause))))) two = ome
 -- ---- services
 
 serve_unused : (service : Service) (shelf : ShelfChange) (disk : DiskChange) (door : DoorChange) → ServeStop service shelf disk door stop.Usage → ⊥
-serve_unused service shelf disk door (inl (inl lacks, unasked, unheard)) = absurd lacks.cause
+serve_unused service shelf disk door (inl (inl lacks, unasked, unheard)) = not_usage lacks.claim shelf lacks.cause
 serve_unused service shelf disk door (inl (inr lacks, unasked, unheard)) = absurd lacks.1
 serve_unused service shelf disk door (inr opening) = elim opening.2.2 [ inl journal ↦ absurd journal.0 | inr unheard ↦ absurd unheard ]
 
@@ -98,11 +109,25 @@ many_two link_tells ask part disk door run many two = elim many.runs [
 
 -- ---- proofs
 
-prove_unused : (ask : ProveAsk Bits) (shelf : ShelfChange) (disk : DiskChange) (door : DoorChange) → ProveStop ask shelf disk door stop.Usage → ⊥
-prove_unused ask shelf disk door (inl (inl (inl cause), unasked, unheard)) = absurd cause
-prove_unused ask shelf disk door (inl (inl (inr cause), unasked, unheard)) = absurd cause.is
-prove_unused ask shelf disk door (inl (inr cause, unasked, unheard)) = absurd cause.4
-prove_unused ask shelf disk door (inr cause) = elim cause.3.cause [ inl journal ↦ absurd journal.0 | inr unheard ↦ absurd unheard ]
+bits_unused : (proof : BitsProof) (shelf : ShelfChange) → BitsProofStop proof shelf stop.Usage → ⊥
+bits_unused proof shelf (inl cause) = absurd cause
+bits_unused proof shelf (inr cause) = absurd cause.is
+
+elements_unused : (proof : ElementsProof) (shelf : ShelfChange) → ElementsProofStop proof shelf stop.Usage → ⊥
+elements_unused proof shelf (inl cause) = absurd cause
+elements_unused proof shelf (inr cause) = elim cause.is [
+  | inl values ↦ absurd values
+  | inr given ↦ (elim given.is [ inl outputs ↦ absurd outputs | inr found ↦ absurd found.is ])
+]
+
+witness_unused : (proof : ProofNames) (shelf : ShelfChange) → WitnessStop proof shelf stop.Usage → ⊥
+witness_unused (names.Boolean proof) shelf cause = bits_unused proof shelf cause
+witness_unused (names.Arithmetic proof) shelf cause = elements_unused proof shelf cause
+
+prove_unused : (proof : Proof) (shelf : ShelfChange) (disk : DiskChange) (door : DoorChange) → ProveStop proof shelf disk door stop.Usage → ⊥
+prove_unused proof shelf disk door (inl (inl cause, unasked, unheard)) = witness_unused proof.names shelf cause
+prove_unused proof shelf disk door (inl (inr cause, unasked, unheard)) = absurd cause.1
+prove_unused proof shelf disk door (inr cause) = elim cause.2.cause [ inl journal ↦ absurd journal.0 | inr unheard ↦ absurd unheard ]
 
 proved_two : (outcome : ProverOutcome) → 2 ≡ proved_status outcome → ⊥
 proved_two ended.Accepted two = omega (arith, two)
@@ -119,19 +144,20 @@ proved_two ended.Device two = omega (arith, two)
 proved_two ended.Link two = omega (arith, two)
 proved_two ended.NoMemory two = omega (arith, two)
 
-prove_two : {L : Type 0} (ask : ProveAsk Bits) (part : Part L) (disk : DiskChange) (door : DoorChange) (run : Effects)
-    → ProveMeans ask part disk door run → run.status ≡ 2 → ⊥
-prove_two ask (Proved note) disk door run (inl accepted) two = let zero_is = accepted.0 in omega (arith, zero_is, two)
-prove_two ask (Proved note) disk door run (inr (inl other)) two = proved_two note.outcome (sym two ∙ other.0)
-prove_two ask (Proved note) disk door run (inr (inr (inl (four, failed)))) two = omega (arith, four, two)
-prove_two ask (Proved note) disk door run (inr (inr (inr seven))) two = omega (arith, seven, two)
-prove_two ask Plain disk door run (inl stopped) two =
-    stop_two (ProveStop ask run.shelf disk door) run.status (prove_unused ask run.shelf disk door) stopped two
-prove_two ask Plain disk door run (inr (inl (four, failed))) two = omega (arith, four, two)
-prove_two ask Plain disk door run (inr (inr seven)) two = omega (arith, seven, two)
-prove_two ask (Rehearsed r) disk door run means two = means
-prove_two ask (RehearsedElements r) disk door run means two = means
-prove_two ask (Served notes) disk door run means two = means
+note_two : {L : Type 0} (proof : Proof) (note : Option (ProverNote L)) (disk : DiskChange) (door : DoorChange) (run : Effects)
+    → ProveMeans proof note disk door run → run.status ≡ 2 → ⊥
+note_two proof (Some note) disk door run (inl accepted) two = let zero_is = accepted.0 in omega (arith, zero_is, two)
+note_two proof (Some note) disk door run (inr (inl other)) two = proved_two note.outcome (sym two ∙ other.0)
+note_two proof (Some note) disk door run (inr (inr (inl (four, failed)))) two = omega (arith, four, two)
+note_two proof (Some note) disk door run (inr (inr (inr seven))) two = omega (arith, seven, two)
+note_two proof None disk door run (inl stopped) two =
+    stop_two (ProveStop proof run.shelf disk door) run.status (prove_unused proof run.shelf disk door) stopped two
+note_two proof None disk door run (inr (inl (four, failed))) two = omega (arith, four, two)
+note_two proof None disk door run (inr (inr seven)) two = omega (arith, seven, two)
+
+prove_two : {L : Type 0} (link_tells : L → LinkState) (proof : Proof) (part : Part L) (disk : DiskChange) (door : DoorChange) (run : Effects)
+    → ProvesPart link_tells proof part disk door run → run.status ≡ 2 → ⊥
+prove_two link_tells proof part disk door run held two = note_two proof held.note disk door run held.proves.means two
 
 -- ---- rehearsals of arithmetic circuits
 
@@ -146,6 +172,15 @@ arith_two ask part run (inr (inl stopped)) two =
 arith_two ask part run (inr (inr (inl (four, failed)))) two = omega (arith, four, two)
 arith_two ask part run (inr (inr (inr seven))) two = omega (arith, seven, two)
 
+-- ---- audits
+
+audit_two : (asked : Audit) (run : Effects) → AuditMeans asked run → run.status ≡ 2 → ⊥
+audit_two asked run (inl zero_is) two = let at = zero_is.0 in omega (arith, at, two)
+audit_two asked run (inr (inl one)) two = let at = one.0 in omega (arith, at, two)
+audit_two asked run (inr (inr (inl three))) two = let at = three.0 in omega (arith, at, two)
+audit_two asked run (inr (inr (inr (inl four)))) two = let at = four.0 in omega (arith, at, two)
+audit_two asked run (inr (inr (inr (inr seven)))) two = omega (arith, seven, two)
+
 -- ---- any command
 
 pub command_two : {F L B D : Type 0} (ask : Ask Bits) (seed : List ℕ) (disk : DiskChange) (run : Run F L B D) → Meets ask seed disk run
@@ -155,13 +190,8 @@ command_two (generate ask) seed disk run meets two = means_two _ _ _ run.effects
 command_two (rehearse_arith ask) seed disk run meets two = arith_two ask run.part run.effects meets.0.means two
 command_two (eval ask) seed disk run meets two = means_two _ _ _ run.effects meets.0.means two
 command_two (deal ask) seed disk run meets two = means_two _ _ _ run.effects meets.0.means two
-command_two (audit ask) seed disk run meets two = elim meets.0.means [
-  | inl zero_is ↦ (let at = zero_is.0 in omega (arith, at, two))
-  | inr (inl one) ↦ (let at = one.0 in omega (arith, at, two))
-  | inr (inr (inl three)) ↦ (let at = three.0 in omega (arith, at, two))
-  | inr (inr (inr (inl four))) ↦ (let at = four.0 in omega (arith, at, two))
-  | inr (inr (inr (inr seven))) ↦ omega (arith, seven, two)
-]
+command_two (audit ask) seed disk run meets two = audit_two (audit_asked ask) run.effects meets.0.means two
+command_two (audit_arith ask) seed disk run meets two = audit_two (audit_of_arith ask) run.effects meets.0.means two
 command_two (migrate ask) seed disk run meets two = elim meets.0.statuses [
   | inl zero_is ↦ omega (arith, zero_is, two)
   | inr (inl three) ↦ omega (arith, three, two)
@@ -178,4 +208,7 @@ command_two (status ask) seed disk run meets two = elim meets.0.statuses [
 ]
 command_two (serve ask) seed disk run meets two = serve_two (service_asked ask) run.part disk run.door run.effects meets.means two
 command_two (serve_many ask) seed disk run meets two = many_two run.link_tells ask run.part disk run.door run.effects meets two
-command_two (prove ask) seed disk run meets two = prove_two ask run.part disk run.door run.effects meets.means two
+command_two (serve_arith ask) seed disk run meets two = serve_two (service_of_arith ask) run.part disk run.door run.effects meets.means two
+command_two (prove ask) seed disk run meets two = prove_two run.link_tells (proof_asked ask) run.part disk run.door run.effects meets two
+command_two (prove_arith ask) seed disk run meets two =
+    prove_two run.link_tells (proof_of_arith ask) run.part disk run.door run.effects meets two

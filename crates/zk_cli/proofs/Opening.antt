@@ -12,7 +12,7 @@ use Rattle.session_pool.specs.Notes.{AreGrantsApart, IsLeft, IsNoteOf, IsRefused
 use Rattle.session_verifier.specs.Outcomes.{lease_fault}
 use Rattle.session_verifier.specs.Sessions.{IsAnsweredNote}
 use Rattle.session_verifier.specs.declared.note.SessionNote.{SessionNote}
-use Rattle.statement_file.specs.Services.{Service}
+use Rattle.claim_files.specs.Services.{Service}
 use Rattle.file_commands.specs.Journals.{DiskChange, JournalStop, OpensJournal, OnlyReads, disk_change, own_journal, IsCeilingsFault}
 use Rattle.file_commands.specs.Effects.{DoorChange}
 use Rattle.file_commands.proofs.Journals.{keeps_ceiling, opened_is_read}

@@ -17,7 +17,7 @@ use Rattle.session_pool.specs.Notes.{AreGrantsApart, IsBetween, IsMarked, IsRefu
 use Rattle.session_verifier.specs.Outcomes.{lease_fault}
 use Rattle.session_verifier.specs.Sessions.{IsVerifierNote}
 use Rattle.session_verifier.specs.declared.note.SessionNote.{SessionNote}
-use Rattle.statement_file.specs.Services.{Service}
+use Rattle.claim_files.specs.Services.{Service}
 use Rattle.file_commands.specs.Journals.{DiskChange}
 use Rattle.file_commands.specs.Effects.{DoorChange}
 use Rattle.zk_cli.specs.ServeRuns.{LeadsFiles, LeadsJobs, units_of_note}

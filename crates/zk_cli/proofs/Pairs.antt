@@ -1,8 +1,6 @@
 -- Two lists that correspond element by element.
 use Rattle.std.proofs.Common.{◌≡◌, ◌<◌, ◌++◌, ℕ, zero, suc, List, [], ◌∷◌, length, map, get_or, refl, ap, arith}
 use Rattle.std.specs.List.{AllZip}
-use Rattle.std.specs.Prelude.{All}
-use Rattle.std.proofs.lemmas.List.Elements.{All-cons, All-nil}
 
 module _ {A B : Type 0} (R : A → B → Type 0) where
   pub zip_length : (xs : List A) (ys : List B) → AllZip R xs ys → length xs ≡ length ys
@@ -30,10 +28,3 @@ zip_map R S f each [] [] zip = tt
 zip_map R S f each [] (y ∷ ys) zip = absurd zip
 zip_map R S f each (x ∷ xs) [] zip = absurd zip
 zip_map R S f each (x ∷ xs) (y ∷ ys) zip = (each x y zip.0, zip_map R S f each xs ys zip.1)
-
--- what the pairs say of the second list's elements
-pub zip_all : {A B : Type 0} (R : A → B → Type 0) (P : B → Type 0) → ((x : A) (y : B) → R x y → P y) → (xs : List A) (ys : List B) → AllZip R xs ys → All P ys
-zip_all R P each [] [] zip = All-nil P
-zip_all R P each [] (y ∷ ys) zip = absurd zip
-zip_all R P each (x ∷ xs) [] zip = absurd zip
-zip_all R P each (x ∷ xs) (y ∷ ys) zip = All-cons P y ys (each x y zip.0) (zip_all R P each xs ys zip.1)

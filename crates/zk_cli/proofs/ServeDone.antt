@@ -15,7 +15,9 @@ use Rattle.zk_port.specs.Counts.{Rose}
 use Rattle.zk_port.specs.Disks.{DiskState}
 use Rattle.zk_port.specs.Files.{Files}
 use Rattle.zk_port.specs.Links.{LinkState}
+use Rattle.arith_reader.specs.Laws.{TextsAreExact}
 use Rattle.bristol_reader.specs.Laws.{OneCircuit}
+use Rattle.element_file.specs.Laws.{ElementsAreExact}
 use Rattle.lease_store.specs.Laws.{CeilingsStartAgain}
 use Rattle.lease_journal.specs.declared.fault.StartFault.{StartFault}
 use Rattle.lease_journal.specs.declared.fault.StartFault.TheVariants as start
@@ -29,21 +31,22 @@ use Rattle.session_verifier.specs.Outcomes.{lease_fault}
 use Rattle.session_verifier.specs.declared.note.SessionNote.{SessionNote}
 use Rattle.session_verifier.specs.declared.note.VerifierOutcome.{VerifierOutcome}
 use Rattle.session_verifier.specs.declared.note.VerifierOutcome.TheVariants.{Accepted, NoMemory}
-use Rattle.statement_file.specs.Claims.{NamedClaim}
-use Rattle.statement_file.specs.Services.{Service}
+use Rattle.claim_files.specs.NamedClaims.{HasClaimed}
+use Rattle.claim_files.specs.Services.{Service}
+use Rattle.claim_files.proofs.ClaimCauses.{statement_lacks}
 use Rattle.file_commands.specs.Journals.{DiskChange, JournalStop, IsCeilingsFault, LeavesUnits}
 use Rattle.session_verifier.specs.NoteLines.{has_status, outcome_status}
 use Rattle.file_commands.specs.Effects.{ShelfChange, DoorChange, Effects, NameFailed, OtherNamesStay, OnlyAsks, IsDone}
 use Rattle.zk_cli.specs.Runs.{EachNote}
-use Rattle.zk_cli.specs.ServeRuns.{TakeFewUnits, IsCircuitName, IsFirstTooLarge, IsServeName, LacksClaim, OpeningStop, ServeStop, LeadsFiles, ServeLines, units_of_note}
-use Rattle.file_commands.specs.Stops.{HasCircuit, ListenStop, stop_status}
+use Rattle.zk_cli.specs.ServeRuns.{TakeFewUnits, IsClaimsName, IsFirstTooLarge, IsServeName, LacksClaim, OpeningStop, ServeStop, LeadsFiles, ServeLines, units_of_note}
+use Rattle.file_commands.specs.Stops.{ListenStop, stop_status}
 use Rattle.zk_cli.specs.ServeRuns.{IsServable, HasServeFailed, IsWithHonestProver, NotesMean, ServeMeans, Serves}
 use Rattle.session_verifier.specs.ServiceLogs.{IsLogName}
 use Rattle.zk_cli.specs.declared.finish.Part.{Part}
 use Rattle.zk_cli.specs.declared.finish.Part.TheVariants.{Plain, Proved, Rehearsed, RehearsedElements, Served}
 use Rattle.file_commands.specs.declared.refusal.Refusal.{Refusal}
 use Rattle.file_commands.specs.declared.refusal.Refusal.TheVariants as stop
-use Rattle.file_commands.proofs.Causes.{claim_lacks, file_7, sound_7}
+use Rattle.file_commands.proofs.Causes.{file_7, sound_7}
 use Rattle.file_commands.proofs.Journals.{rose_by}
 use Rattle.lease_store.proofs.Finding.{one_ceiling}
 use Rattle.zk_cli.proofs.LeaseCauses.{not_refused, refusal_is_told}
@@ -57,16 +60,14 @@ stands_among all before behind x are =
     subst (λ (xs : List _). Contains xs x) (sym are)
     (length before, (let size = length-append before (x ∷ behind) in omega (arith, size)), get_or-append_seam before x behind x)
 
-lacks_7 : OneCircuit → (service : Service) (shelf : ShelfChange) (disk : DiskState) → IsServable shelf.old.told disk service
-    → ((name : List ℕ) → IsCircuitName service.claims name → ¬ NameFailed name shelf)
+lacks_7 : OneCircuit → TextsAreExact → ElementsAreExact → (service : Service) (shelf : ShelfChange) (disk : DiskState) → IsServable shelf.old.told disk service
+    → ((name : List ℕ) → IsClaimsName service.claims name → ¬ NameFailed name shelf)
     → (why : Refusal) → LacksClaim service.claims shelf why → why ≡ stop.NoMemory
-lacks_7 one service shelf disk ready calm why lacks =
+lacks_7 one texts exact service shelf disk ready calm why lacks =
     let claim = lacks.claim in
     let among = stands_among service.claims lacks.before lacks.behind claim lacks.are in
-    claim_lacks one claim.circuit claim.public claim.outputs shelf ready.tells
-    (All-contains (λ (c : NamedClaim). HasCircuit shelf.old.told c.circuit
-    (λ circuit. (length c.public ≤ circuit.inputs) × (length c.outputs ≡ circuit.outputs))) service.claims claim ready.claims among)
-    (calm claim.circuit (claim, among, refl)) why lacks.cause
+    statement_lacks one texts exact claim shelf ready.tells (All-contains (HasClaimed shelf.old.told) service.claims claim ready.claims among)
+    (λ name is. calm name (claim, among, is)) why lacks.cause
 
 -- no journal is refused where one stands that leaves units
 journal_7 : CeilingsStartAgain → (id : List ℕ) (total units : ℕ) (disk : DiskChange) → LeavesUnits id total units disk.old.content
@@ -99,14 +100,14 @@ opening_7 law service jobs units disk door few leaves calm quiet other cause = e
   | inr unheard ↦ listen_7 service.address service.options.timeout door quiet other unheard
 ]
 
-stop_7 : OneCircuit → CeilingsStartAgain → (service : Service) (disk : DiskChange) (door : DoorChange) (run : Effects)
+stop_7 : OneCircuit → TextsAreExact → ElementsAreExact → CeilingsStartAgain → (service : Service) (disk : DiskChange) (door : DoorChange) (run : Effects)
     → IsServable run.shelf.old.told disk.old service → ¬ HasServeFailed service disk door run → (why : Refusal)
     → ServeStop service run.shelf disk door why → stop_status why ≡ 7
-stop_7 one law service disk door run ready calm why (inl (inl lacks, unasked, unheard)) =
-    ap stop_status (lacks_7 one service run.shelf disk.old ready (λ name is rose. calm (inl (inl (name, inl (inl is), rose)))) why lacks)
-stop_7 one law service disk door run ready calm why (inl (inr lacks, unasked, unheard)) =
+stop_7 one texts exact law service disk door run ready calm why (inl (inl lacks, unasked, unheard)) =
+    ap stop_status (lacks_7 one texts exact service run.shelf disk.old ready (λ name is rose. calm (inl (inl (name, inl (inl is), rose)))) why lacks)
+stop_7 one texts exact law service disk door run ready calm why (inl (inr lacks, unasked, unheard)) =
     file_7 Verifier service.file run.shelf ready.tells ready.file (λ rose. calm (inl (inl (service.file, inl (inr refl), rose)))) why lacks.1
-stop_7 one law service disk door run ready calm why (inr opening) =
+stop_7 one texts exact law service disk door run ready calm why (inr opening) =
     let leaves = ready.room opening.0 opening.1 in
     opening_7 law service opening.0 (leaves.0 * service.options.sessions) disk door (ready.few opening.0 opening.1) leaves.2
     (λ rose. calm (inr (inl rose))) (λ rose. calm (inr (inr (inl rose)))) why opening.2
@@ -230,28 +231,28 @@ notes_done {L} link_tells service notes disk door run door_failed memory_failed 
     of_means (inr (inr (inr (inr (inl some))))) = absurd (none 6 (λ e. absurd (omega (arith, e))) (λ e. absurd (omega (arith, e))) some.1)
     of_means (inr (inr (inr (inr (inr seven))))) = inr seven
 
-serve_is_done : {L : Type 0} (link_tells : L → LinkState) → OneCircuit → CeilingsStartAgain → (service : Service) (part : Part L) (disk : DiskChange) (door : DoorChange)
+serve_is_done : {L : Type 0} (link_tells : L → LinkState) → OneCircuit → TextsAreExact → ElementsAreExact → CeilingsStartAgain → (service : Service) (part : Part L) (disk : DiskChange) (door : DoorChange)
     (run : Effects) → ServeLines link_tells service part disk door run → ServeMeans service part disk door run
     → IsServable run.shelf.old.told disk.old service → ¬ HasServeFailed service disk door run
     → EachNote part (IsWithHonestProver link_tells run.shelf.old.told service) → IsDone run.status
-serve_is_done link_tells one law service (Served notes) disk door run says means ready calm honest =
+serve_is_done link_tells one texts exact law service (Served notes) disk door run says means ready calm honest =
     notes_done link_tells service notes.items disk door run says.door_failed says.memory_failed ready says.leads honest calm means
-serve_is_done link_tells one law service Plain disk door run says means ready calm honest = elim means [
-  | inl stopped ↦ inr (stopped.2 ∙ stop_7 one law service disk door run ready calm stopped.0 stopped.1)
+serve_is_done link_tells one texts exact law service Plain disk door run says means ready calm honest = elim means [
+  | inl stopped ↦ inr (stopped.2 ∙ stop_7 one texts exact law service disk door run ready calm stopped.0 stopped.1)
   | inr seven ↦ inr seven
 ]
-serve_is_done link_tells one law service (Rehearsed r) disk door run says means ready calm honest = absurd says
-serve_is_done link_tells one law service (RehearsedElements r) disk door run says means ready calm honest = absurd says
-serve_is_done link_tells one law service (Proved note) disk door run says means ready calm honest = absurd says
+serve_is_done link_tells one texts exact law service (Rehearsed r) disk door run says means ready calm honest = absurd says
+serve_is_done link_tells one texts exact law service (RehearsedElements r) disk door run says means ready calm honest = absurd says
+serve_is_done link_tells one texts exact law service (Proved note) disk door run says means ready calm honest = absurd says
 
-pub serves : {L : Type 0} (link_tells : L → LinkState) → OneCircuit → CeilingsStartAgain → (service : Service) (part : Part L) (disk : DiskChange) (door : DoorChange)
+pub serves : {L : Type 0} (link_tells : L → LinkState) → OneCircuit → TextsAreExact → ElementsAreExact → CeilingsStartAgain → (service : Service) (part : Part L) (disk : DiskChange) (door : DoorChange)
     (run : Effects) → ServeLines link_tells service part disk door run → OtherNamesStay (IsLogName service.options.logs) run.shelf.old.told run.shelf.new.told
     → OnlyAsks (IsServeName service) run.shelf → Serves link_tells service part disk door run
-serves link_tells one law service part disk door run lines others asked =
+serves link_tells one texts exact law service part disk door run lines others asked =
     let means = serve_means link_tells service part disk door run lines in record {
       lines = lines;
       means = means;
-      done = λ ready calm honest. serve_is_done link_tells one law service part disk door run lines means ready calm honest;
+      done = λ ready calm honest. serve_is_done link_tells one texts exact law service part disk door run lines means ready calm honest;
       others = others;
       asked = asked;
     }

@@ -1,5 +1,5 @@
 -- What is said of the sessions that were served gives what the status says.
-use Rattle.std.proofs.Common.{◌≡◌, ◌≢◌, ◌⊎◌, ◌<◌, ◌++◌, ℕ, zero, suc, Bool, true, false, List, [], ◌∷◌, All, length, get_or, Option, None, Some, refl, sym, ap, ◌∙◌, subst, inl, inr, arith}
+use Rattle.std.proofs.Common.{◌≡◌, ◌≢◌, ◌⊎◌, ℕ, zero, suc, Bool, true, false, List, [], ◌∷◌, All, Option, refl, sym, ap, ◌∙◌, subst, inl, inr, arith}
 use Rattle.std.specs.Prelude.{◌==◌, ◌||◌, if◌then◌else◌}
 use Rattle.zk_port.specs.Doors.{DoorState}
 use Rattle.zk_port.specs.Links.{LinkState}
@@ -8,7 +8,7 @@ use Rattle.session_verifier.specs.Outcomes.{lease_fault}
 use Rattle.session_verifier.specs.declared.note.SessionNote.{SessionNote}
 use Rattle.session_verifier.specs.declared.note.VerifierOutcome.{VerifierOutcome}
 use Rattle.session_verifier.specs.declared.note.VerifierOutcome.TheVariants.{Accepted, RejectedSum, RejectedOpening, PeerEnded, BadFrame, BadHello, Exhausted, Device, Broken, Link, NoMemory}
-use Rattle.statement_file.specs.Services.{Service}
+use Rattle.claim_files.specs.Services.{Service}
 use Rattle.file_commands.specs.Journals.{DiskChange}
 use Rattle.session_verifier.specs.NoteLines.{IsServedText, has_status, served_status, failures, outcome_status}
 use Rattle.file_commands.specs.Effects.{ShelfChange, DoorChange, Effects}
@@ -21,6 +21,7 @@ use Rattle.zk_cli.specs.declared.finish.Part.TheVariants.{Plain, Proved, Rehears
 use Rattle.file_commands.specs.declared.refusal.Refusal.{Refusal}
 use Rattle.file_commands.specs.declared.refusal.Refusal.TheVariants as stop
 use Rattle.file_commands.proofs.Journals.{rose_by}
+use Rattle.claim_files.proofs.ClaimCauses.{not_unsatisfied}
 use Rattle.file_commands.proofs.Means.{IsHigh, stop_answers}
 
 true_is_false : true ≡ false → ⊥
@@ -219,7 +220,8 @@ module _ {L : Type 0} (link_tells : L → LinkState) (service : Service) (notes 
 -- a service does not stop for other outputs
 serve_is_high : (service : Service) (shelf : ShelfChange) (disk : DiskChange) (door : DoorChange) (why : Refusal) → ServeStop service shelf disk door why
     → IsHigh why
-serve_is_high service shelf disk door (stop.Unsatisfied output) (inl (inl lacks, unasked, unheard)) = absurd lacks.cause
+serve_is_high service shelf disk door (stop.Unsatisfied output) (inl (inl lacks, unasked, unheard)) =
+    absurd (not_unsatisfied lacks.claim shelf output lacks.cause)
 serve_is_high service shelf disk door (stop.Unsatisfied output) (inl (inr lacks, unasked, unheard)) = absurd lacks.1
 serve_is_high service shelf disk door (stop.Unsatisfied output) (inr opening) =
     elim opening.2.2 [ inl journal ↦ absurd journal.0 | inr unheard ↦ absurd unheard ]

@@ -1,6 +1,6 @@
 -- `rehearse-arith CIRCUIT VALUES [--section G] [--extended]`: what it hands back and says, and what it promises of its run.
-use Rattle.std.specs.Prelude.{◌≡◌, ◌≢◌, ◌⊎◌, ℕ, ◌+◌, List, Option, None}
-use Rattle.zk_model.specs.Arithmetic.{Arith, IsFirstFailed, SatisfiesElements}
+use Rattle.std.specs.Prelude.{◌≡◌, ◌≢◌, ◌⊎◌, ℕ, List, Option, None}
+use Rattle.zk_model.specs.Arithmetic.{Arith, SatisfiesElements}
 use Rattle.zk_model.specs.ArithProgram.{arith_program}
 use Rattle.zk_model.specs.Program.{correlations_needed}
 use Rattle.zk_model.specs.Statement.{arith_statement}
@@ -8,11 +8,12 @@ use Rattle.zk_port.specs.Files.{Files}
 use Rattle.command_words.specs.Words.{RehearseArithAsk}
 use Rattle.session_rehearsal.specs.Rehearsals.{IsArithRehearsalOf, IsTooLargeAbout, no_digest, units_rehearsed}
 use Rattle.session_rehearsal.specs.declared.rehearsal.Rehearsal.{Rehearsal}
-use Rattle.file_commands.specs.ArithFiles.{ArithStop, ElementsStop, HasArith, IsArithFile, IsEither, IsElementsFile}
+use Rattle.claim_files.specs.ArithFiles.{ArithStop, ElementsStop, HasArith, IsArithFile, IsEither, IsElementsFile}
 use Rattle.file_commands.specs.Effects.{Effects, HasFailed, OnlyLoads, ShelfChange}
 use Rattle.file_commands.specs.Stops.{IsOfStop, PrintsMade, SaysStop}
 use Rattle.file_commands.specs.declared.refusal.Refusal.{Refusal}
 use Rattle.file_commands.specs.declared.refusal.Refusal.TheVariants.{Unsatisfied, TooLarge}
+use Rattle.prove_command.specs.ElementsProofs.{IsUnmetAt}
 use Rattle.zk_cli.specs.RehearseRuns.{Accepts, AnswersFor, arith_lines, verdict_status}
 use Rattle.zk_cli.specs.declared.finish.Part.{Part}
 use Rattle.zk_cli.specs.declared.finish.Part.TheVariants.{Plain, RehearsedElements}
@@ -30,13 +31,6 @@ pub record HasValues (told : Option Files) (ask : RehearseArithAsk) (Holds : Ari
 abbrev pub IsArithRehearsed : Option Files → RehearseArithAsk → List ℕ → Rehearsal (List ℕ) → Type 0
 IsArithRehearsed told ask seed r =
     HasValues told ask (λ circuit values. IsArithRehearsalOf circuit values ask.kind ask.section seed r)
-
--- the first assertion of the circuit that the values do not meet is said by its number behind the outputs
-pub record IsUnmetAt (circuit : Arith) (values : List ℕ) (place : ℕ) : Type 0 where
-  pub assert : ℕ
-  pub value : ℕ
-  pub failed : IsFirstFailed circuit values assert value
-  pub place_is : place ≡ circuit.outputs + assert
 
 -- they meet all, and the session takes too many units
 pub record IsArithTooLarge (ask : RehearseArithAsk) (circuit : Arith) (values : List ℕ) (need units : ℕ) : Type 0 where

@@ -4,5 +4,5 @@ pub mod RehearseRuns
 pub mod Runs
 pub mod ServeRuns
 pub mod ServedNotes
-pub mod ProveRuns
+pub mod ProvedParts
 pub mod ArithRuns

@@ -1,10 +1,12 @@
 -- `serve-many ADDRESS FILE STATEMENTS --sessions N ..`: the service of the claims that a file of statements names.
-use Rattle.std.specs.Prelude.{◌≡◌, ◌⊎◌, List, Option}
+use Rattle.std.specs.Prelude.{◌≡◌, ◌⊎◌, List, Option, map}
 use Rattle.zk_port.specs.Files.{Files}
 use Rattle.zk_port.specs.Links.{LinkState}
 use Rattle.command_words.specs.Words.{ServeManyAsk}
 use Rattle.statement_file.specs.Claims.{NamedClaim, HasFault, NamesClaims}
-use Rattle.statement_file.specs.Services.{Service, service_of_many}
+use Rattle.claim_files.specs.Services.{Service, service_of_many}
+use Rattle.claim_files.specs.declared.claim_names.ClaimNames.{ClaimNames}
+use Rattle.claim_files.specs.declared.claim_names.ClaimNames.TheVariants as names
 use Rattle.statement_file.specs.declared.fault.StatementFault.TheVariants.{BadLine, Count}
 use Rattle.file_commands.specs.Effects.{DoorChange, Effects, IsDone, IsName, NameFailed, OnlyLoads, ShelfChange}
 use Rattle.file_commands.specs.Journals.{DiskChange, IsUntouched}
@@ -20,6 +22,11 @@ use Rattle.zk_cli.specs.declared.finish.Part.TheVariants.{Plain}
 abbrev pub IsServiceOfMany : Option Files → ServeManyAsk → Service → Type 0
 IsServiceOfMany told ask service = (claims : List NamedClaim)
     × HasText told ask.statements (λ text. NamesClaims text claims) × (service ≡ service_of_many ask claims)
+
+-- where a shelf tells, the file of statements names claims which are these of either kind
+abbrev pub NamesService : Option Files → ServeManyAsk → List ClaimNames → Type 0
+NamesService told ask named = (claims : List NamedClaim)
+    × HasText told ask.statements (λ text. NamesClaims text claims) × (named ≡ map names.Boolean claims)
 
 -- why no claims can be had: their file has a fault, or can't be loaded
 abbrev pub StatementsStop : ServeManyAsk → ShelfChange → Refusal → Type 0

@@ -1,16 +1,18 @@
 -- What a run of the program does for what its words ask for.
 use Rattle.std.specs.Prelude.{◌≡◌, ◌⊎◌, ℕ, List, Bool, false, Option}
-use Rattle.statement_file.specs.Services.{service_asked}
+use Rattle.claim_files.specs.Services.{service_asked, service_of_arith}
 use Rattle.command_words.specs.BitWords.{Bits, BitsAsk}
 use Rattle.command_words.specs.Words.{Ask}
-use Rattle.command_words.specs.declared.asks.Ask.TheVariants.{Rehearse as rehearse, Eval as eval, Deal as deal, Serve as serve, ServeMany as serve_many, Prove as prove, Generate as generate, RehearseArith as rehearse_arith, Audit as audit, Migrate as migrate, Status as status}
+use Rattle.command_words.specs.declared.asks.Ask.TheVariants.{Rehearse as rehearse, Eval as eval, Deal as deal, Serve as serve, ServeMany as serve_many, ServeArith as serve_arith, Prove as prove, ProveArith as prove_arith, Generate as generate, RehearseArith as rehearse_arith, Audit as audit, AuditArith as audit_arith, Migrate as migrate, Status as status}
 use Rattle.proof_audit.specs.AuditRuns.{Audits}
+use Rattle.proof_audit.specs.NamedAudits.{audit_asked, audit_of_arith}
 use Rattle.file_commands.specs.DealRuns.{Deals}
 use Rattle.file_commands.specs.Effects.{OnlyLoads}
 use Rattle.file_commands.specs.GivenBits.{GivenStop, IsAskGiven, IsGivenName}
 use Rattle.file_commands.specs.EvalRuns.{Evaluates}
 use Rattle.file_commands.specs.MigrateRuns.{Migrates}
-use Rattle.zk_cli.specs.ProveRuns.{Proves}
+use Rattle.prove_command.specs.Proofs.{proof_asked, proof_of_arith}
+use Rattle.zk_cli.specs.ProvedParts.{ProvesPart}
 use Rattle.zk_cli.specs.ArithRuns.{RehearsesArith}
 use Rattle.zk_cli.specs.RehearseRuns.{Rehearses, Generates}
 use Rattle.file_commands.specs.Journals.{DiskChange}
@@ -45,12 +47,15 @@ Meets (generate ask) seed disk run = Generates ask seed run.part run.effects × 
 Meets (rehearse_arith ask) seed disk run = RehearsesArith ask seed run.part run.effects × IsLocal run
 Meets (eval ask) seed disk run = Evaluates ask run.effects × (run.part ≡ Plain) × IsLocal run
 Meets (deal ask) seed disk run = Deals ask seed run.effects × (run.part ≡ Plain) × IsLocal run
-Meets (audit ask) seed disk run = Audits ask run.effects × (run.part ≡ Plain) × IsLocal run
+Meets (audit ask) seed disk run = Audits (audit_asked ask) run.effects × (run.part ≡ Plain) × IsLocal run
+Meets (audit_arith ask) seed disk run = Audits (audit_of_arith ask) run.effects × (run.part ≡ Plain) × IsLocal run
 Meets (status ask) seed disk run = Reports ask disk run.effects × (run.part ≡ Plain) × (run.links.new ≡ run.links.old)
 Meets (migrate ask) seed disk run = Migrates ask disk run.effects × (run.part ≡ Plain) × (run.links.new ≡ run.links.old)
 Meets (serve ask) seed disk run = Serves run.link_tells (service_asked ask) run.part disk run.door run.effects
 Meets (serve_many ask) seed disk run = ServesMany run.link_tells ask run.part disk run.door run.effects
-Meets (prove ask) seed disk run = Proves run.link_tells ask run.part disk run.door run.effects
+Meets (serve_arith ask) seed disk run = Serves run.link_tells (service_of_arith ask) run.part disk run.door run.effects
+Meets (prove ask) seed disk run = ProvesPart run.link_tells (proof_asked ask) run.part disk run.door run.effects
+Meets (prove_arith ask) seed disk run = ProvesPart run.link_tells (proof_of_arith ask) run.part disk run.door run.effects
 
 -- all that a run promises of what is asked for: its command's record, the headline, and that no unit is granted twice
 pub record Promises {F L B D : Type 0} (ask : Ask Bits) (seed : List ℕ) (disk : DiskChange) (run : Run F L B D) : Type 0 where
@@ -90,4 +95,5 @@ GrantsOnceGiven told ask part disk = ((given : Ask Bits) × IsAskGiven told ask 
 abbrev pub follows : {B : Type 0} → Ask B → Bool
 follows (serve ask) = ask.options.follow
 follows (serve_many ask) = ask.options.follow
+follows (serve_arith ask) = ask.options.follow
 follows other = false

@@ -4,7 +4,6 @@ use Rattle.std.specs.Borrow.{Bor}
 use Rattle.std.specs.List.{AllZip, sum_by}
 use Rattle.std.specs.List.Sorted.{IsNonDecreasingBy}
 use Rattle.std.specs.declared.alloc.Global.{Global}
-use Rattle.zk_model.specs.Circuit.{Circuit}
 use Rattle.zk_model.specs.HonestProver.{ProverTask}
 use Rattle.zk_model.specs.Statement.{Statement}
 use Rattle.zk_model.specs.declared.Side.TheVariants.{Verifier}
@@ -30,48 +29,44 @@ use Rattle.session_verifier.specs.declared.note.SessionNote.{SessionNote}
 use Rattle.session_verifier.specs.declared.note.VerifierOutcome.TheVariants.{Accepted}
 use Rattle.command_words.specs.Commands.{named_options}
 use Rattle.command_words.specs.declared.asks.ServeManyAsk.{ServeManyAsk}
-use Rattle.statement_file.specs.Claims.{NamedClaim}
-use Rattle.statement_file.specs.Services.{Service, service}
+use Rattle.claim_files.specs.NamedClaims.{Claimed, HasClaimed, IsClaimName, IsClaimOf, IsStatementOf, LacksStatement}
+use Rattle.claim_files.specs.Services.{Service, service}
+use Rattle.claim_files.specs.declared.claim_names.ClaimNames.{ClaimNames}
 use Rattle.file_commands.specs.Journals.{IsCeilingsFault, LeavesUnits, DiskChange, IsUntouched, JournalStop, KeepsCeiling, OnlyReads, own_journal}
 use Rattle.session_verifier.specs.NoteLines.{IsServedText, has_status, start_of}
 use Rattle.file_commands.specs.Effects.{ShelfChange, DoorChange, SomeFailed, SinkFailed, Effects, HasFailed, OtherNamesStay, OnlyAsks, OnlyLoads, IsDone}
 use Rattle.zk_cli.specs.Runs.{EachNote}
 use Rattle.session_verifier.specs.ServiceLogs.{IsLogName, KeepsLogs, SaysService, no_faults}
-use Rattle.file_commands.specs.Stops.{ClaimStop, ListenStop, WritesAll, SaysStop, IsOfStop, HasText, HasCircuit, IsClaim, FileStop, IsVerifierFileAt}
+use Rattle.file_commands.specs.Stops.{ListenStop, WritesAll, SaysStop, IsOfStop, HasText, FileStop, IsVerifierFileAt}
 use Rattle.zk_cli.specs.declared.finish.Part.{Part}
 use Rattle.zk_cli.specs.declared.finish.Part.TheVariants.{Plain, Served}
 use Rattle.file_commands.specs.declared.refusal.Refusal.{Refusal}
 use Rattle.file_commands.specs.declared.refusal.Refusal.TheVariants.{TooLarge, NoMemory}
 
 -- what is served, of these claims
-abbrev pub service_of : ServeManyAsk (String Global) (Bor (List NamedClaim)) → Service
+abbrev pub service_of : ServeManyAsk (String Global) (Bor (List ClaimNames)) → Service
 service_of ask = service (string_bytes ask.address) (string_bytes ask.file) ask.statements.now (named_options ask.options)
 
--- the names of the circuits' files; with that of the verifier's, those that are loaded; and with those of logs, all that are asked for
-abbrev pub IsCircuitName : List NamedClaim → List ℕ → Type 0
-IsCircuitName claims name = (claim : NamedClaim) × Contains claims claim × (name ≡ claim.circuit)
+-- the names of the claims' files; with that of the verifier's, those that are loaded; and with those of logs, all that are asked for
+abbrev pub IsClaimsName : List ClaimNames → List ℕ → Type 0
+IsClaimsName claims name = (claim : ClaimNames) × Contains claims claim × IsClaimName claim name
 
 abbrev pub IsLoadedName : Service → List ℕ → Type 0
-IsLoadedName service name = IsCircuitName service.claims name ⊎ (name ≡ service.file)
+IsLoadedName service name = IsClaimsName service.claims name ⊎ (name ≡ service.file)
 
 abbrev pub IsServeName : Service → List ℕ → Type 0
 IsServeName service name = IsLoadedName service name ⊎ IsLogName service.options.logs name
 
--- where a shelf tells, a claim has this statement
-abbrev pub IsStatementOf : Option Files → NamedClaim → Statement → Type 0
-IsStatementOf told claim statement =
-    (circuit : Circuit) × IsClaim told claim.circuit claim.public claim.outputs circuit statement
-
 -- what a verifier is to do about a claim: over its file, in sections of the length that is named
-pub record IsServeJob (told : Option Files) (service : Service) (named : NamedClaim) (circuit : Circuit) (job : VerifierJob)
+pub record IsServeJob (told : Option Files) (service : Service) (named : ClaimNames) (claimed : Claimed) (job : VerifierJob)
     : Type 0 where
-  pub claim : IsClaim told named.circuit named.public named.outputs circuit job.task.statement
+  pub claim : IsClaimOf told named claimed job.task.statement
   pub file : IsVerifierFileAt told service.file job.task.file
   pub section : job.section_length ≡ service.options.section
 
 -- and about all of them, each by its number, over one file
 pub record AreServeJobs (told : Option Files) (service : Service) (jobs : VerifierJobs) : Type 0 where
-  pub each : AllZip (λ claim job. (circuit : Circuit) × IsServeJob told service claim circuit job) service.claims (all_jobs jobs)
+  pub each : AllZip (λ claim job. (claimed : Claimed) × IsServeJob told service claim claimed job) service.claims (all_jobs jobs)
   pub are : AreVerifierJobs jobs
 
 -- each session takes few units
@@ -85,13 +80,13 @@ units_of_note jobs note = units_of_job (noted_job jobs note.statement)
 -- ---- why nothing is served
 
 -- the first of these claims that can't be had: those before it have statements
-pub record LacksClaim (claims : List NamedClaim) (shelf : ShelfChange) (stop : Refusal) : Type 0 where
-  pub before : List NamedClaim
-  pub claim : NamedClaim
-  pub behind : List NamedClaim
+pub record LacksClaim (claims : List ClaimNames) (shelf : ShelfChange) (stop : Refusal) : Type 0 where
+  pub before : List ClaimNames
+  pub claim : ClaimNames
+  pub behind : List ClaimNames
   pub are : claims ≡ before ++ claim ∷ behind
   pub had : All (λ other. (statement : Statement) × IsStatementOf shelf.old.told other statement) before
-  pub cause : ClaimStop claim.circuit claim.public claim.outputs shelf stop
+  pub cause : LacksStatement claim shelf stop
 
 -- why the claims and the file can't be had, the first of these
 abbrev pub LacksFiles : Service → ShelfChange → Refusal → Type 0
@@ -124,7 +119,7 @@ OpeningStop service jobs disk door stop = TakeFewUnits jobs × OnlyReads (own_jo
     × (door.new ≡ door.old)) ⊎ ListenStop service.address service.options.timeout door stop)
 
 -- Why nothing is served, the first of these: a claim's circuit can't be had, has too few inputs for the public bits, or another number
--- of outputs; the file can't be had; a session is too large; the journal is not opened; the door does not listen.
+-- of outputs, or the file of these can't be had; the verifier's file can't be had; a session is too large; the journal is not opened; the door does not listen.
 abbrev pub ServeStop : Service → ShelfChange → DiskChange → DoorChange → Refusal → Type 0
 ServeStop service shelf disk door stop =
     (LacksFiles service shelf stop × IsUntouched disk × (door.new ≡ door.old))
@@ -227,8 +222,7 @@ ServeMeans service part disk door run = ⊥
 -- about which a session takes few units; and the disk has its journal, which leaves as many units as all sessions take
 pub record IsServable (told : Option Files) (disk : DiskState) (service : Service) : Type 0 where
   pub tells : told ≢ None
-  pub claims : All (λ claim. HasCircuit told claim.circuit
-      (λ circuit. (length claim.public ≤ circuit.inputs) × (length claim.outputs ≡ circuit.outputs))) service.claims
+  pub claims : All (HasClaimed told) service.claims
   pub file : HasText told service.file (IsDealtFile Verifier)
   pub few : (jobs : VerifierJobs) → AreServeJobs told service jobs → TakeFewUnits jobs
   pub room : (jobs : VerifierJobs) → AreServeJobs told service jobs
@@ -249,7 +243,7 @@ pub record IsWithHonestProver {L : Type 0} (link_tells : L → LinkState) (told 
 
 -- Sessions are served with the peers that called where the door listened at the address, over the file's journal, and what came of them
 -- is handed back and said; or nothing is handed back, and the line of a stop with its cause is written. What the status says; that all is
--- done where nothing is refused, nothing fails and all peers are honest; and that nothing but the files of the circuits and of the verifier,
+-- done where nothing is refused, nothing fails and all peers are honest; and that nothing but the files of the claims and of the verifier,
 -- and names of logs, is asked of the shelf, and nothing but logs is changed there.
 pub record Serves {L : Type 0} (link_tells : L → LinkState) (service : Service) (part : Part L)
     (disk : DiskChange) (door : DoorChange) (run : Effects) : Type 0 where

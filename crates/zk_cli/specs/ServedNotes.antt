@@ -2,9 +2,8 @@
 use Rattle.std.specs.Prelude.{◌≡◌, ◌⊎◌, ℕ, ◌+◌, ◌≤◌, max, List, All, AllPairs, Option, Some, IfSome, IsSomeAnd, slice_get}
 use Rattle.std.specs.List.{sum_by}
 use Rattle.std.specs.List.Sorted.{IsNonDecreasingBy}
-use Rattle.zk_model.specs.Circuit.{Circuit}
 use Rattle.zk_model.specs.Files.{ProverFile, IsProverFile, AreDealt}
-use Rattle.zk_model.specs.Headline.{ShowsOutputs}
+use Rattle.zk_model.specs.Headline.{ShowsInputs}
 use Rattle.zk_model.specs.ServedVerifier.{challenge_coin}
 use Rattle.zk_model.specs.Transcript.{Transcript, IsInOrder}
 use Rattle.zk_model.specs.View.{ChecksHold, SaysVerdict}
@@ -22,9 +21,10 @@ use Rattle.session_verifier.specs.declared.note.SessionNote.{SessionNote}
 use Rattle.session_verifier.specs.declared.note.VerifierOutcome.TheVariants as ended
 use Rattle.command_words.specs.BitWords.{Bits}
 use Rattle.command_words.specs.Words.{Ask}
-use Rattle.command_words.specs.declared.asks.Ask.TheVariants.{Serve as serve, ServeMany as serve_many}
-use Rattle.statement_file.specs.Claims.{NamedClaim}
-use Rattle.statement_file.specs.Services.{Service, service_asked}
+use Rattle.command_words.specs.declared.asks.Ask.TheVariants.{Serve as serve, ServeMany as serve_many, ServeArith as serve_arith}
+use Rattle.claim_files.specs.NamedClaims.{AreSatisfying, Claimed}
+use Rattle.claim_files.specs.Services.{Service, service_asked, service_of_arith}
+use Rattle.claim_files.specs.declared.claim_names.ClaimNames.{ClaimNames}
 use Rattle.file_commands.specs.Journals.{DiskChange}
 use Rattle.session_verifier.specs.NoteLines.{start_of}
 use Rattle.zk_cli.specs.ManyRuns.{IsServiceOfMany}
@@ -32,17 +32,18 @@ use Rattle.zk_cli.specs.ServeRuns.{TakeFewUnits, AreServeJobs, IsServeJob, units
 use Rattle.zk_cli.specs.Runs.{OfNotes}
 use Rattle.zk_cli.specs.declared.finish.Part.{Part}
 
--- The headline, of a claim, the circuit and the file that a shelf tells under the names of it and of the service (of one that tells
+-- The headline, of a claim, what is claimed and the file that a shelf tells under the names of it and of the service (of one that tells
 -- nothing, of some circuit and some file). The log of an accepted session is that of a transcript in order for the job, with a grant of the
 -- units that were leased; the challenge is the verifier's coin of the first of them; all checks hold, and the verdict says so.
--- For every prover's file that is dealt with the verifier's, the private input bits that this file and its frames fix, beside
--- the public ones, make the circuit give the claimed outputs, or the challenge is a root of a named polynomial that is not zero,
--- of at most the number of products in degree, or the key is one of a named polynomial that is not zero, of degree two at most.
-pub record IsHeadline (told : Option Files) (service : Service) (claim : NamedClaim) (granted : Option Span) (log : List (Side × ℕ))
+-- For every prover's file that is dealt with the verifier's, the private inputs that this file and its frames fix satisfy what is claimed:
+-- bits, beside the public ones, make the circuit give the claimed outputs; elements make the arithmetic circuit give them, and meet its
+-- assertions. Or the challenge is a root of a named polynomial that is not zero, of at most the number of products in degree, or the key
+-- is one of a named polynomial that is not zero, of degree two at most.
+pub record IsHeadline (told : Option Files) (service : Service) (claim : ClaimNames) (granted : Option Span) (log : List (Side × ℕ))
     : Type 0 where
-  pub circuit : Circuit
+  pub claimed : Claimed
   pub job : VerifierJob
-  pub served : IsServeJob told service claim circuit job
+  pub served : IsServeJob told service claim claimed job
   pub span : Span
   pub leased : granted ≡ Some span
   pub units : span.end ≡ span.start + units_of_job job
@@ -53,13 +54,13 @@ pub record IsHeadline (told : Option Files) (service : Service) (claim : NamedCl
   pub checks : ChecksHold job.task.file job.task.statement t
   pub said : SaysVerdict t Accepted
   pub shows : (prover : ProverFile) → IsProverFile prover → AreDealt prover job.task.file
-      → ShowsOutputs circuit claim.public claim.outputs prover job.task.file.key job.task.statement t
+      → ShowsInputs (AreSatisfying claimed) prover job.task.file.key job.task.statement t
 
 -- an accepted session has the headline of the claim of its note's number
 pub record ShowsClaim {L : Type 0} (told : Option Files) (service : Service) (note : SessionNote L) : Type 0 where
   pub number : ℕ
   pub taken : note.statement ≡ Some number
-  pub claim : NamedClaim
+  pub claim : ClaimNames
   pub named : slice_get service.claims number ≡ Some claim
   pub shows : IsHeadline told service claim note.granted note.log
 
@@ -96,6 +97,7 @@ pub record GrantsOnce {L : Type 0} (told : Option Files) (service : Service) (no
 -- file of statements does
 abbrev pub OfServed : {L : Type 0} → Option Files → Ask Bits → Part L → (Service → List (SessionNote L) → Type 0) → Type 0
 OfServed told (serve ask) part Holds = OfNotes part (Holds (service_asked ask))
+OfServed told (serve_arith ask) part Holds = OfNotes part (Holds (service_of_arith ask))
 OfServed told (serve_many ask) part Holds =
     OfNotes part (λ notes. (service : Service) × IsServiceOfMany told ask service × Holds service notes)
 OfServed told ask part Holds = Unit {0}

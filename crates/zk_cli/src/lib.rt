@@ -1,23 +1,23 @@
 //! The commands of the program, over whatever files, disk, door and output they are given: the top call, and those that hold
 //! sessions. The others, and what all share, are in `file_commands`.
 //!
-//! `run` has the top call. A service (`serve_command`) loads its claims (`claim_files`), makes a job of each (`serve_jobs`) and leads
+//! `run` has the top call. A service (`serve_command`) loads its claims (`service_files`), makes a job of each (`serve_jobs`) and leads
 //! sessions about them, whose logs are kept as they end (`watched`), and says how it goes (`follow`); `many_command` serves those of a file of
-//! statements. What is kept and said of sessions is in `session_verifier`.
+//! statements. What is kept and said of sessions is in `session_verifier`. `proved_part` hands back what comes of `prove` and `prove-arith`,
+//! whose run is in `prove_command`.
 #![tactic(auto)]
 
 mod arith_rehearse_command;
-mod claim_files;
 mod finish;
 mod follow;
 mod generate_command;
 mod many_command;
-mod prove_command;
-mod proved_line;
+mod proved_part;
 mod rehearse_command;
 mod run;
 mod serve_command;
 mod serve_jobs;
+mod service_files;
 mod watched;
 
 pub use file_commands::Refusal;

@@ -13,12 +13,13 @@ use crate::arith_rehearse_command::run_rehearse_arith;
 use crate::finish::{Finish, Ports};
 use crate::generate_command::run_generate;
 use crate::many_command::run_serve_many;
-use crate::prove_command::run_prove;
+use crate::proved_part::run_proof;
 use crate::rehearse_command::run_rehearse;
-use crate::serve_command::run_serve;
+use crate::serve_command::{run_serve, run_serve_arith};
 use command_words::{Ask as Asks, BitsWord, Command, read_words};
 use file_commands::{Refusal, read_given, run_deal, run_eval, run_migrate, say_memory, say_stop};
-use proof_audit::run_audit;
+use proof_audit::{run_audit, run_audit_arith};
+use prove_command::Proof;
 use status_command::{StatusEnd, run_status};
 use std::alloc::Global;
 use std::sync::Wait;
@@ -63,8 +64,11 @@ where
         }
         Asks::Serve(ask) => run_serve(rt, alloc, shelf, ports, out, notices, ask),
         Asks::ServeMany(ask) => run_serve_many(rt, alloc, shelf, ports, out, notices, ask),
-        Asks::Prove(ask) => run_prove(rt, alloc, shelf, ports, out, &ask),
-        Asks::Audit(ask) => ports.end(run_audit(rt, alloc, shelf, out, &ask)),
+        Asks::ServeArith(ask) => run_serve_arith(rt, alloc, shelf, ports, out, notices, ask),
+        Asks::Prove(ask) => run_proof(rt, alloc, shelf, ports, out, &Proof::by_bits(ask)),
+        Asks::ProveArith(ask) => run_proof(rt, alloc, shelf, ports, out, &Proof::by_elements(ask)),
+        Asks::Audit(ask) => ports.end(run_audit(rt, alloc, shelf, out, ask)),
+        Asks::AuditArith(ask) => ports.end(run_audit_arith(rt, alloc, shelf, out, ask)),
         Asks::Status(ask) => {
             let Ports { journal, door } = ports;
             let circuit = ask.circuit.as_deref();
@@ -129,12 +133,16 @@ where
 /// [--follow] [--public BITS]` ends with 0 where each session is accepted, or no peer called; 1 where one is not; 3 where a file or
 /// the journal is refused, or the outputs for it; 4 where a load, the door, a link, a log or the output failed; 5 where
 /// the journal failed; 6 where units are missing; and with 7 and 9; and so does `serve-many ADDRESS FILE STATEMENTS --sessions N
-/// [--workers W] [--section G] [--timeout S] [--logs PREFIX] [--follow]`, also with 3 where the file of statements is refused. `prove ADDRESS FILE CIRCUIT BITS OUTPUTS
+/// [--workers W] [--section G] [--timeout S] [--logs PREFIX] [--follow]`, also with 3 where the file of statements is refused, and
+/// `serve-arith ADDRESS FILE CIRCUIT OUTPUTS --sessions N [--workers W] [--section G] [--timeout S] [--logs PREFIX] [--follow]`, with 3 where
+/// the file of the outputs is. `prove ADDRESS FILE CIRCUIT BITS OUTPUTS
 /// [--timeout S] [--public BITS]` ends with 0 where it is accepted; 1 where it is rejected, or the circuit gives other outputs; 3 where
 /// a file or the journal is refused, or the bits or outputs for it; 4 where a load, the door, the link or the output
-/// failed; 5 where the journal failed or is full; 8 where the peer broke the protocol; and with 7.
+/// failed; 5 where the journal failed or is full; 8 where the peer broke the protocol; and with 7; and so does `prove-arith ADDRESS FILE
+/// CIRCUIT VALUES OUTPUTS [--timeout S]`, also with 1 where an assertion is not met, and with 3 where a file of elements is refused.
 /// `audit CIRCUIT OUTPUTS PROVERFILE VERIFIERFILE LOG [--public BITS]` ends with 0 where inputs are found; 1 where something else
-/// is; 3 where a file is refused, the outputs for it, both files or the log; 4 where a load or the output failed; and with 7.
+/// is; 3 where a file is refused, the outputs for it, both files or the log; 4 where a load or the output failed; and with 7; and so does
+/// `audit-arith CIRCUIT OUTPUTS PROVERFILE VERIFIERFILE LOG`, also with 3 where the file of the outputs is refused.
 /// `migrate SIDE FILE` ends with 0 where the journal is migrated, now or before; 3 where the file or the journal is refused; 4
 /// where a load or the output failed; 5 where the journal failed; and with 7. `status FILE [CIRCUIT]` ends with 0 where it is said; 3 where a
 /// file, the circuit or the journal is refused; 4 where a load or the output failed; 5 where the journal failed; and with 7.
@@ -179,9 +187,10 @@ where
         (change journal result.journal) (change door result.door)) }
 
     // The headline: what an accepted session shows of the claim that it is about, which words or a file of statements name. For
-    // every prover's file that is dealt with the verifier's, the private input bits that this file and its frames fix, beside
-    // the public ones, make the circuit give the claimed outputs, or the challenge is a root of a named nonzero polynomial of at
-    // most the number of products in degree, or the key is one of a named nonzero polynomial of degree two at most.
+    // every prover's file that is dealt with the verifier's, the private inputs that this file and its frames fix make the circuit
+    // give the claimed outputs, bits beside the public ones, or elements, which meet an arithmetic circuit's assertions; or the
+    // challenge is a root of a named nonzero polynomial of at most the number of products in degree, or the key is one of a named
+    // nonzero polynomial of degree two at most.
     ensures headline { (ask : Ask BitsAsk) → asked (texts words.now) ≡ Some ask
         → ShowsGiven (F.state shelf.old).told ask result.part }
 

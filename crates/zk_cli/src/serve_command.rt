@@ -1,4 +1,4 @@
-// `serve` and `serve-many`: sessions about claims over a verifier's file.
+// `serve`, `serve-many` and `serve-arith`: sessions about claims over a verifier's file.
 ghost use Rattle.std.specs.Prelude.{◌≡◌, ◌≤◌, ◌<◌, ℕ, List, All, AllPairs, Some, IfSome, false, IfOk, IfErr, OnErr, length, string_bytes};
 ghost use Rattle.std.specs.Option.{option_map};
 ghost use Rattle.lease_store.specs.Ceilings.{HasCeilingHeader};
@@ -12,28 +12,32 @@ ghost use Rattle.zk_port.specs.Changes.{change};
 ghost use Rattle.zk_model.specs.declared.limits.TheConstants.{MAX_STATEMENTS};
 ghost use Rattle.session_verifier.specs.ServiceLogs.{TriesLogs};
 ghost use Rattle.session_verifier.specs.declared.note.VerifierOutcome.TheVariants.{Accepted};
-ghost use Rattle.command_words.specs.Commands.{AreServeLimits, known_bits, named_options, serve_of};
-ghost use Rattle.command_words.specs.declared.asks.Ask.TheVariants.{Serve as serve};
+ghost use Rattle.command_words.specs.Commands.{AreServeLimits, known_bits, named_options, serve_arith_of, serve_of};
+ghost use Rattle.command_words.specs.declared.asks.Ask.TheVariants.{Serve as serve, ServeArith as serve_arith};
 ghost use Rattle.file_commands.specs.Journals.{IsJournalDisk, disk_change};
 ghost use Rattle.file_commands.specs.Effects.{OnlyLoads, effects};
-ghost use Rattle.statement_file.specs.Services.{service_asked};
+ghost use Rattle.claim_files.specs.NamedClaims.{AreOfOneKind};
+ghost use Rattle.claim_files.specs.Services.{service_asked, service_of_arith};
 ghost use Rattle.zk_cli.specs.Runs.{EachNote, OfNotes};
 ghost use Rattle.zk_cli.specs.ServeRuns.{TakeFewUnits, IsLoadedName, LeadsFiles, LeadsJobs};
 ghost use Rattle.zk_cli.specs.ServeRuns.{OpeningStop, Serves, ServeStop, service_of, units_of_note};
 ghost use Rattle.zk_cli.specs.ServedNotes.{GrantsOnce, GrantsOnceIn, ShowsClaim, ShowsClaims};
 
-use crate::claim_files::load_files;
 use crate::finish::{Ending, Finish, Part, Ports};
 use crate::follow::{Unheard, say_start};
 use crate::serve_jobs::{fit_jobs, most_units, statements_of};
+use crate::service_files::load_files;
 use crate::watched::{Watched, serve_watched};
+use arith_reader::texts_are_exact;
 use bristol_reader::one_circuit;
-use command_words::{ServeAsk, ServeManyAsk, ServeOptions};
+use claim_files::{ClaimNames, NamedElements};
+use command_words::{ServeArithAsk, ServeAsk, ServeManyAsk, ServeOptions};
+use element_file::elements_are_exact;
 use file_commands::{Refusal, open_ceilings, say_stop};
 use lease_store::{LeaseParts, ceilings_start_again};
 use lease_words::Pass;
 use session_core::VerifierJobs;
-use session_laws::extracted_shows_outputs;
+use session_laws::{extracted_shows_elements, extracted_shows_outputs};
 use session_pool::Served;
 use session_verifier::{LogFaults, LogLoan, SessionNote, order_notes, say_service};
 use statement_file::NamedClaim;
@@ -45,7 +49,7 @@ use std::thread::Threads;
 use zk_port::{Access, Disk, Door, PortFault, Shelf, Sink};
 
 /// What is served: where, over which file, about these claims, and how.
-pub type Service<'a> = ServeManyAsk<String, &'a [NamedClaim]>;
+pub type Service<'a> = ServeManyAsk<String, &'a [ClaimNames]>;
 
 /// Why nothing is served, with the disk and the door as they are then.
 #[derive(Drop)]
@@ -207,6 +211,7 @@ where
     requires limits { AreServeLimits (named_options service.now.options) }
     requires some { 1 ≤ length service.now.statements.now }
     requires most { length service.now.statements.now ≤ MAX_STATEMENTS }
+    requires kind { AreOfOneKind service.now.statements.now }
     ensures leads { IfOk result (λ led. LeadsFiles D.Link.state (service_of service.now)
         led.served.notes.items led.served.door_failed led.served.memory_failed (F.state shelf.old).told
         (disk_change (B.state ports.journal) (B.state led.served.disk))
@@ -262,6 +267,7 @@ where
     requires limits { AreServeLimits (named_options service.now.options) }
     requires some { 1 ≤ length service.now.statements.now }
     requires most { length service.now.statements.now ≤ MAX_STATEMENTS }
+    requires kind { AreOfOneKind service.now.statements.now }
     ensures serves { Serves D.Link.state (service_of service.now) result.part
         (disk_change (B.state ports.journal) (B.state result.journal))
         (change (D.state ports.door) (D.state result.door))
@@ -273,8 +279,11 @@ where
         notes (disk_change (B.state ports.journal) (B.state result.journal))) }
 {
     one_circuit();
+    texts_are_exact();
+    elements_are_exact();
     ceilings_start_again();
     extracted_shows_outputs();
+    extracted_shows_elements();
     match serve_files(rt, alloc, shelf, notices, service, ports) {
         Ok(led) => {
             let Led { served, faults } = led;
@@ -328,6 +337,7 @@ where
     requires limits { AreServeLimits (named_options service.now.options) }
     requires some { 1 ≤ length service.now.statements.now }
     requires most { length service.now.statements.now ≤ MAX_STATEMENTS }
+    requires kind { AreOfOneKind service.now.statements.now }
     ensures serves { Serves D.Link.state (service_of service.now) result.part
         (disk_change (B.state ports.journal) (B.state result.journal))
         (change (D.state ports.door) (D.state result.door))
@@ -377,7 +387,50 @@ where
         (disk_change (B.state ports.journal) (B.state result.journal)) }
     ensures quiet { ask.options.follow ≡ false → E.state notices.new ≡ E.state notices.old }
 {
-    let claim = NamedClaim::new(ask.circuit, ask.public, ask.outputs);
+    let named = NamedClaim::new(ask.circuit, ask.public, ask.outputs);
+    let claim = ClaimNames::Boolean(named);
+    let service = ServeManyAsk {
+        address: ask.address,
+        file: ask.file,
+        statements: from_ref(&claim),
+        options: ask.options,
+    };
+    run_service(rt, alloc, shelf, ports, out, notices, &service)
+}
+
+/// `serve-arith ADDRESS FILE CIRCUIT OUTPUTS --sessions N [--workers W] [--section G] [--timeout S] [--logs PREFIX] [--follow]`: serves
+/// sessions about the claim that the arithmetic circuit gives the elements of that file, or says why none is served; with the status.
+pub fn run_serve_arith<R, F, D, B, O, E>(
+    rt: &R,
+    alloc: Global,
+    shelf: &mut F,
+    ports: Ports<B, D>,
+    out: &mut O,
+    notices: &mut E,
+    ask: ServeArithAsk<String>,
+) -> Finish<B, D>
+where
+    R: Threads + Wait + Sync,
+    F: Shelf + Send,
+    D: Door + Drop + Send,
+    D::Link: Drop + Send,
+    B: Disk + Drop + Send,
+    O: Sink,
+    E: Sink + Send,
+    requires disk { IsJournalDisk (B.state ports.journal) }
+    requires limits { AreServeLimits (named_options ask.options) }
+    ensures serves { Serves D.Link.state (service_of_arith (serve_arith_of ask)) result.part
+        (disk_change (B.state ports.journal) (B.state result.journal))
+        (change (D.state ports.door) (D.state result.door))
+        (effects result.status
+        (change (F.state shelf.old) (F.state shelf.new)) (change (O.state out.old) (O.state out.new))) }
+    ensures headline { ShowsClaims (F.state shelf.old).told (serve_arith (serve_arith_of ask)) result.part }
+    ensures once { GrantsOnceIn (F.state shelf.old).told (serve_arith (serve_arith_of ask)) result.part
+        (disk_change (B.state ports.journal) (B.state result.journal)) }
+    ensures quiet { ask.options.follow ≡ false → E.state notices.new ≡ E.state notices.old }
+{
+    let named = NamedElements::new(ask.circuit, ask.outputs);
+    let claim = ClaimNames::Arithmetic(named);
     let service = ServeManyAsk {
         address: ask.address,
         file: ask.file,

@@ -1,5 +1,5 @@
 use Rattle.proof_audit.proofs.laws.found_shows_outputs.Goals as goal
 
 pub returns : goal.returns
-returns c circuit public outputs prover task log finding found =
+returns c claimed prover task log finding found =
     record { finding = finding; found = found.found; says = found.says }

@@ -1,6 +1,6 @@
-use Rattle.std.proofs.Common.{◌≡◌, ℕ, List, subst}
+use Rattle.std.proofs.Common.{ℕ, List, subst}
 use Rattle.zk_port.specs.Shelves.{ShelfState}
-use Rattle.file_commands.specs.ArithFiles.{IsArithFile, IsElementsFile}
+use Rattle.claim_files.specs.ArithFiles.{IsArithFile, IsElementsFile}
 use Rattle.session_rehearsal.specs.Rehearsals.{ArithRehearseCause}
 use Rattle.session_rehearsal.specs.declared.rehearsal.ArithRehearseFault.{ArithRehearseFault}
 use Rattle.session_rehearsal.specs.declared.rehearsal.ArithRehearseFault.TheVariants.{TooLarge}

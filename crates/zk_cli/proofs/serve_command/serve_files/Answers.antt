@@ -4,7 +4,8 @@ use Rattle.zk_model.specs.Statement.{Statement}
 use Rattle.zk_model.specs.declared.limits.TheConstants.{MAX_UNITS}
 use Rattle.zk_port.specs.Changes.{change}
 use Rattle.session_core.specs.Jobs.{VerifierJob, VerifierJobs, all_jobs, units_of_job}
-use Rattle.zk_cli.specs.ServeRuns.{TakeFewUnits, AreServeJobs, FitStop, IsStatementOf, service_of}
+use Rattle.claim_files.specs.NamedClaims.{IsStatementOf}
+use Rattle.zk_cli.specs.ServeRuns.{TakeFewUnits, AreServeJobs, FitStop, service_of}
 use Rattle.zk_cli.proofs.Loading.{are_jobs, job_over, lacks_jobs, err_then, lacks_memory, ok_then, parted_jobs}
 use Rattle.zk_cli.proofs.Pairs.{zip_length}
 use Rattle.zk_cli.proofs.serve_command.serve_files.Goals as goal
@@ -21,7 +22,7 @@ returns-in-Err-fit_jobs-clause-stop g c =
     let stated : c.deref-2.result.now ≡ c.in-Ok.files.claims.items = c.deref-2.ensures.value ∙ c.in-Ok-statements_of.ensures ∙ c.deref.ensures.value in
     lacks_jobs service (change (g.F.Shelf.state c.args.shelf.now) (g.F.Shelf.state c.load_files.new.shelf))
     (g.B.Disk.state c.args.ports.journal) (g.D.Door.state c.args.ports.door) file c.in-Ok.files.claims.items c.in-Ok.ensures.file c.in-Ok.ensures.claims
-    c.requires.some c.requires.most c.in-Err-fit_jobs.refusal
+    c.requires.some c.requires.most c.requires.kind c.in-Err-fit_jobs.refusal
     (subst (λ (s : List Statement). FitStop (map (job_over service file) s) c.in-Err-fit_jobs.refusal) stated c.in-Err-fit_jobs.ensures.stop)
 
 pub unreachable-requires : goal.unreachable-requires
@@ -45,7 +46,7 @@ new-jobs-requires g c =
     ∙ c.in-Ok-fit_jobs.ensures.jobs ∙ ap (map (job_over service file)) stated in
     let served : AreServeJobs (g.F.Shelf.state c.args.shelf.now).told service jobs =
     are_jobs (g.F.Shelf.state c.args.shelf.now).told service file c.in-Ok.files.claims.items jobs c.in-Ok.ensures.file c.in-Ok.ensures.claims
-    c.requires.most are in
+    c.requires.most c.requires.kind are in
     served.are
 
 pub serve_jobs-requires-clause-few : goal.serve_jobs-requires-clause-few
@@ -66,8 +67,8 @@ returns-clause-leads g c =
     ∙ c.as_slice.ensures.value ∙ c.in-Ok-fit_jobs.ensures.jobs ∙ ap (map (job_over service file)) stated in
     let served : AreServeJobs (g.F.Shelf.state c.args.shelf.now).told service c.new-jobs.result =
     are_jobs (g.F.Shelf.state c.args.shelf.now).told service file c.in-Ok.files.claims.items c.new-jobs.result c.in-Ok.ensures.file
-    c.in-Ok.ensures.claims c.requires.most are in
+    c.in-Ok.ensures.claims c.requires.most c.requires.kind are in
     ok_then _ _ c.serve_jobs.result (λ value leads. record { jobs = c.new-jobs.result; served = served; leads = leads }) c.serve_jobs.ensures.leads
 
 pub returns-clause-stop : goal.returns-clause-stop
-returns-clause-stop g c = let service = service_of c.args.service.now in let file = c.in-Ok.files.file in let stated : c.deref-2.result.now ≡ c.in-Ok.files.claims.items = c.deref-2.ensures.value ∙ c.in-Ok-statements_of.ensures ∙ c.deref.ensures.value in let are : all_jobs c.new-jobs.result ≡ map (job_over service file) c.in-Ok.files.claims.items = ap all_jobs c.new-jobs.ensures ∙ parted_jobs c.as_slice.result.now c.first-item.result c.in-len1-up.len_at_least c.first-item.is ∙ c.as_slice.ensures.value ∙ c.in-Ok-fit_jobs.ensures.jobs ∙ ap (map (job_over service file)) stated in let served : AreServeJobs (g.F.Shelf.state c.args.shelf.now).told service c.new-jobs.result = are_jobs (g.F.Shelf.state c.args.shelf.now).told service file c.in-Ok.files.claims.items c.new-jobs.result c.in-Ok.ensures.file c.in-Ok.ensures.claims c.requires.most are in err_then _ _ c.serve_jobs.result (λ stopped opening. inr (c.new-jobs.result, served, opening)) c.serve_jobs.ensures.stop
+returns-clause-stop g c = let service = service_of c.args.service.now in let file = c.in-Ok.files.file in let stated : c.deref-2.result.now ≡ c.in-Ok.files.claims.items = c.deref-2.ensures.value ∙ c.in-Ok-statements_of.ensures ∙ c.deref.ensures.value in let are : all_jobs c.new-jobs.result ≡ map (job_over service file) c.in-Ok.files.claims.items = ap all_jobs c.new-jobs.ensures ∙ parted_jobs c.as_slice.result.now c.first-item.result c.in-len1-up.len_at_least c.first-item.is ∙ c.as_slice.ensures.value ∙ c.in-Ok-fit_jobs.ensures.jobs ∙ ap (map (job_over service file)) stated in let served : AreServeJobs (g.F.Shelf.state c.args.shelf.now).told service c.new-jobs.result = are_jobs (g.F.Shelf.state c.args.shelf.now).told service file c.in-Ok.files.claims.items c.new-jobs.result c.in-Ok.ensures.file c.in-Ok.ensures.claims c.requires.most c.requires.kind are in err_then _ _ c.serve_jobs.result (λ stopped opening. inr (c.new-jobs.result, served, opening)) c.serve_jobs.ensures.stop

@@ -48,7 +48,8 @@ returns-in-Ok-clause-serves g c =
     let said : SaysService {L = g.row.D-Link.Denot} service.options.logs c.order_notes.new.notes.items c.in-Ok.led.served.door_failed c.in-Ok.led.served.memory_failed run =
     subst (λ (p : List (SessionNote g.row.D-Link.Denot) × Option (List ℕ)). SaysService p.1 p.0 c.in-Ok.led.served.door_failed c.in-Ok.led.served.memory_failed run)
     (λ i. (c.deref.ensures.value i, prefix i)) (c.say_service-status.ensures old tried) in
-    rw c.end_with.ensures (serves g.D.Link.Link.state c.one_circuit.ensures c.ceilings_start_again.ensures service _ _ _ run
+    rw c.end_with.ensures (serves g.D.Link.Link.state c.one_circuit.ensures c.texts_are_exact.ensures c.elements_are_exact.ensures
+    c.ceilings_start_again.ensures service _ _ _ run
     (record {
       door_failed = c.in-Ok.led.served.door_failed;
       memory_failed = c.in-Ok.led.served.memory_failed;
@@ -62,7 +63,7 @@ returns-in-Ok-clause-serves g c =
 pub returns-in-Ok-clause-headline : goal.returns-in-Ok-clause-headline
 returns-in-Ok-clause-headline g c =
     rw c.end_with.ensures
-    (headlines g.D.Link.Link.state c.extracted_shows_outputs.ensures _ _ _ _ _ _ _ (leads g c.before.before))
+    (headlines g.D.Link.Link.state c.extracted_shows_outputs.ensures c.extracted_shows_elements.ensures c.elements_are_exact.ensures _ _ _ _ _ _ _ (leads g c.before.before))
 
 pub returns-in-Ok-clause-once : goal.returns-in-Ok-clause-once
 returns-in-Ok-clause-once g c =
@@ -73,7 +74,8 @@ pub returns-in-Err-clause-serves : goal.returns-in-Err-clause-serves
 returns-in-Err-clause-serves g c =
     let service = service_of c.args.service.now in
     let shelf = change (g.F.Shelf.state c.args.shelf.now) (g.F.Shelf.state c.serve_files.new.shelf) in
-    rw c.end.ensures (serves g.D.Link.Link.state c.one_circuit.ensures c.ceilings_start_again.ensures service _ _ _ _ (
+    rw c.end.ensures (serves g.D.Link.Link.state c.one_circuit.ensures c.texts_are_exact.ensures c.elements_are_exact.ensures
+    c.ceilings_start_again.ensures service _ _ _ _ (
       record {
         stop = c.in-Err.field-0.refusal;
         cause = c.in-Err.ensures.stop;

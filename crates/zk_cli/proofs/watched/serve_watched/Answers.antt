@@ -1,4 +1,4 @@
-use Rattle.std.proofs.Common.{◌≡◌, ℕ, List, IfSome, All, sym, ap, subst}
+use Rattle.std.proofs.Common.{ℕ, List, IfSome, All, sym, ap, subst}
 use Rattle.lease_store.specs.Ceilings.{HasCeilingHeader}
 use Rattle.session_core.specs.Jobs.{VerifierJobs}
 use Rattle.session_pool.specs.Notes.{IsLeft, IsNoteOf, IsRefusedAmong, IsUnused}

@@ -1,0 +1,2 @@
+pub mod ArithCauses
+pub mod ClaimCauses

@@ -1,0 +1,4 @@
+pub mod ArithFiles
+pub mod NamedClaims
+pub mod NamedElements
+pub mod Services

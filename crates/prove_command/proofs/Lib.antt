@@ -1,0 +1,3 @@
+pub mod Claiming
+pub mod Jobs
+pub mod ProveOutcomes

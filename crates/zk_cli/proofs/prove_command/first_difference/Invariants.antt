@@ -1,6 +1,0 @@
-use Rattle.std.proofs.Common.{◌≡◌, take}
-use Rattle.zk_cli.proofs.prove_command.first_difference.Given as goal
-
--- the places so far are the same
-abbrev pub invariant-loop-place : goal.invariant-loop-place
-invariant-loop-place l = take l.place l.some ≡ take l.place l.others
