@@ -111,22 +111,25 @@ def read(text: bytes) -> Union[Circuit, Fault]:
         return refused.fault
 
 
+def values(circuit: Circuit, inputs: List[int]) -> List[int]:
+    """The value of each wire at these inputs, whether assertions are met or not."""
+    assert len(inputs) == circuit.inputs
+    found = inputs + [0] * (circuit.wires - len(inputs))
+    for gate in circuit.gates:
+        if gate.name == "CONST":
+            found[gate.output] = gate.value
+        elif gate.name != "ASSERT":
+            a, b = (found[wire] for wire in gate.reads)
+            found[gate.output] = (a + b if gate.name == "ADD" else a * b) % P
+    return found
+
+
 def evaluate(circuit: Circuit, inputs: List[int]) -> Union[List[int], int]:
     """The outputs at these inputs, or the number of the first assertion that is not met."""
-    assert len(inputs) == circuit.inputs
-    values = inputs + [0] * (circuit.wires - len(inputs))
-    asserted = []
-    for gate in circuit.gates:
-        read_values = [values[wire] for wire in gate.reads]
-        if gate.name == "ASSERT":
-            asserted += read_values
-        elif gate.name == "CONST":
-            values[gate.output] = gate.value
-        else:
-            a, b = read_values
-            values[gate.output] = (a + b if gate.name == "ADD" else a * b) % P
+    found = values(circuit, inputs)
+    asserted = [found[gate.reads[0]] for gate in circuit.gates if gate.name == "ASSERT"]
     unmet = next((number for number, value in enumerate(asserted) if value), None)
-    return values[circuit.wires - circuit.outputs :] if unmet is None else unmet
+    return found[circuit.wires - circuit.outputs :] if unmet is None else unmet
 
 
 def elements(text: bytes) -> Union[List[int], int]:

@@ -13,7 +13,6 @@ from common import FILE_ID, KEY, P, VERIFIER_COINS, dealt_correlations, from_wor
 from ends import (
     CHALLENGE,
     GRANT,
-    HELLO,
     MOST_UNITS,
     VERDICT,
     Job,
@@ -29,7 +28,7 @@ from ends import (
     reply_place,
     still_wanted,
 )
-from session import LONG, carried
+from session import LONG
 
 
 class Answered(Exception):
@@ -69,7 +68,7 @@ class Reader:
 
 
 def is_hello_for(job: Job, data: bytes) -> bool:
-    version = 1 if len(data) == 102 else 2
+    version = job.claim.version(len(data) > 102)
     said = data[37:101] + (data[102:] or sha256(b""))
     return data[5:37] == FILE_ID and data[101] == version and said == job.digests()
 
@@ -89,33 +88,30 @@ def root(name: str, coefficients: List[int]) -> str:
 def finding(job: Job, pairs: List[Tuple[int, int]], corrections: List[int], challenge: int, sums: List[int], macs: List[int]) -> str:
     """What an accepted session shows. With keys m + x key the two sides of a section's check differ by a polynomial in the key, whose
     last coefficient is its errors under the challenge."""
-    circuit, products = job.claim.circuit, job.products()
+    products = job.claim.products()
     fixed = [(x + d) % P for (x, _), d in zip(pairs, corrections)]
-    values, tags = carried(job.claim, fixed, 1), carried(job.claim, [m for _, m in pairs[: len(products)]], 0)
+    given = [m for _, m in pairs[: len(fixed)]]
+    values, tags = job.claim.carried(fixed, 1), job.claim.carried(given, 0)
     for s, first in enumerate(range(0, len(products), job.section)):
         part = products[first : first + job.section]
-        errors = [(values[a] * values[b] - fixed[first + j]) % P for j, (a, b) in enumerate(part)]
+        errors = [(values[a] * values[b] - fixed[i]) % P for a, b, i in part]
         if any(errors):
             if combined(errors, challenge) == 0:
                 return root(f"challenge-root:{s}", [0, *errors])
-            x, m = pairs[len(products) + s]
-            constant, linear = m, x
-            for j, (a, b) in enumerate(part):
-                power = pow(challenge, j + 1, P)
+            linear, constant = pairs[len(given) + s]
+            for j, (a, b, i) in enumerate(part, 1):
+                power = pow(challenge, j, P)
                 constant += power * tags[a] * tags[b]
-                linear += power * (values[a] * tags[b] + values[b] * tags[a] - pairs[first + j][1])
+                linear += power * (values[a] * tags[b] + values[b] * tags[a] - given[i])
             return root("key-root", [constant - sums[2 * s], linear - sums[2 * s + 1], combined(errors, challenge)])
-    for wire, bit, mac in zip(range(circuit.wires - circuit.outputs, circuit.wires), job.outputs, macs):
-        if values[wire] != bit:
-            return root("key-root", [tags[wire] - mac, values[wire] - bit])
-    inputs = values[job.claim.public : circuit.inputs]
-    assert all(value in (0, 1) for value in inputs)
-    return "inputs:" + ("".join(map(str, inputs)) or "none")
+    for (wire, value), mac in zip(job.opened(), macs):
+        if values[wire] != value:
+            return root("key-root", [tags[wire] - mac, values[wire] - value])
+    return f"inputs:{job.claim.private_word(values)}"
 
 
 def audited(job: Job, reader: Reader) -> None:
-    products = len(job.products())
-    reader.given(is_hello_for(job, reader.take(HELLO)))
+    reader.given(is_hello_for(job, reader.take(job.hello_place())))
     answer = reader.take(GRANT)
     if answer[0] == 10:
         reader.end("not-accepted")
@@ -134,11 +130,11 @@ def audited(job: Job, reader: Reader) -> None:
             reader.given(replies[-1] == reply_of(params, unit, ask))
         keys = [key for unit in units for key in keys_of(params, unit)]
         pairs = [pair for unit, reply in zip(units, replies) for pair in pairs_of(params, unit, reply)]
-    corrections = read_elements(reader.take(element_place(5, products)))
+    corrections = read_elements(reader.take(element_place(5, job.claim.givens())))
     challenge = read_elements(reader.take(CHALLENGE))[0]
     reader.given(challenge == from_word(word(VERIFIER_COINS, 4 * start + 1, 0)))
-    sums = read_elements(reader.take(element_place(7, 2 * -(-products // section))))
-    macs = read_elements(reader.take(element_place(8, job.claim.circuit.outputs)))
+    sums = read_elements(reader.take(element_place(7, 2 * -(-len(job.claim.products()) // section))))
+    macs = read_elements(reader.take(element_place(8, len(job.opened()))))
     verdict, number = struct.unpack("<BI", reader.take(VERDICT)[5:])
     given = [(k + d * KEY) % P for k, d in zip(keys, corrections)]
     reader.given((verdict, number) == judge(job, keys, given, challenge, sums, macs)[:2])

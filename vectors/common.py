@@ -6,7 +6,7 @@ numbers have their low byte first. `docs/FORMATS.md` and `docs/PROTOCOL.md` say 
 import functools
 import hashlib
 import struct
-from typing import List, NamedTuple, Tuple
+from typing import Iterable, List, NamedTuple, Tuple
 
 from chacha import word
 
@@ -29,7 +29,7 @@ def element(x: int) -> bytes:
     return struct.pack("<Q", x)
 
 
-def elements(xs: List[int]) -> bytes:
+def elements(xs: Iterable[int]) -> bytes:
     return b"".join(map(element, xs))
 
 

@@ -25,7 +25,7 @@ from common import (
     words,
     xor,
 )
-from session import LONG, Claim, Extended, Product, bits_of_wires, carried, coded, grown, leaf, products_of, punctured
+from session import LONG, AnyClaim, ElementsClaim, Extended, coded, grown, leaf, punctured
 
 MOST_UNITS = 4096
 MOST_RECEIVED = 4096
@@ -38,21 +38,17 @@ Claimant = Callable[[int, int], Optional[str]]
 
 
 class Job(NamedTuple):
-    """What a session is about: the claim with the prover's bits, the claimed outputs, the files and the length of sections."""
+    """What a session is about: the claim with the prover's inputs, the claimed outputs, the files and the length of sections."""
 
-    claim: Claim
+    claim: AnyClaim
     outputs: Tuple[int, ...]
     params: Optional[Extended]
     total: int
     section: int
 
-    def products(self) -> List[Product]:
-        return products_of(self.claim.circuit, self.claim.public)
-
     def need(self, section: int) -> int:
         """How many correlations a session with sections of this length takes."""
-        products = len(self.products())
-        return products + -(-products // section)
+        return self.claim.givens() + -(-len(self.claim.products()) // section)
 
     def units(self, section: int) -> int:
         """How many units it takes."""
@@ -60,11 +56,18 @@ class Job(NamedTuple):
         return max(1, -(-self.need(section) // size))
 
     def digests(self) -> bytes:
-        """The digests of its statement: of the circuit's text, of the claimed outputs, and of the public bits."""
-        return self.claim.digest + sha256("".join(map(str, self.outputs)).encode()) + self.claim.public_digest()
+        return self.claim.digests(self.outputs)
 
     def hello(self) -> bytes:
-        return self.claim.hello(list(self.outputs))
+        return self.claim.hello(self.outputs)
+
+    def opened(self) -> List[Tuple[int, int]]:
+        """The wires that are opened, each with what is claimed of it."""
+        return self.claim.opened(self.outputs)
+
+    def hello_place(self) -> "Place":
+        """Hellos of both forms, or about an arithmetic circuit of one."""
+        return ONE_HELLO if isinstance(self.claim, ElementsClaim) else HELLO
 
 
 # ---- frames that a place allows
@@ -90,6 +93,7 @@ ELEMENT = Field(8, lambda part: struct.unpack("<Q", part)[0] < P)
 # The frames that a place allows: of each kind the fields of its payload.
 Place = Dict[int, List[Field]]
 
+ONE_HELLO: Place = {1: [anything(97)]}
 HELLO: Place = {1: [anything(97)]}
 LONG_HELLO: Place = {1: [anything(129)]}
 GRANT: Place = {2: [anything(16)], 10: [code(1, 4)]}
@@ -326,7 +330,7 @@ def take_statement(end: End, jobs: List[Job], got: bytes) -> Job:
     came = got[5:37]
     if came != FILE_ID:
         end.refuse(1, f"bad-hello id want={FILE_ID.hex()} got={came.hex()}")
-    version = 1 if len(got) == 102 else 2
+    version = jobs[0].claim.version(len(got) > 102)
     if got[101] != version:
         end.refuse(1, f"bad-hello version want={version} got={got[101]}")
     said = got[37:101] + (got[102:] or sha256(b""))
@@ -365,34 +369,32 @@ def take_keys(end: End, job: Job, start: int, count: int) -> List[int]:
 
 def judge(job: Job, dealt_keys: List[int], given: List[int], challenge: int, sums: List[int], macs: List[int]):
     """The code and the number of a verdict, and the outcome."""
-    circuit, products = job.claim.circuit, job.products()
-    keys = carried(job.claim, given, KEY)
+    products = job.claim.products()
+    keys = job.claim.carried(given, KEY)
     for s, first in enumerate(range(0, len(products), job.section)):
-        left = dealt_keys[len(products) + s]
-        for j, (a, b) in enumerate(products[first : first + job.section], 1):
-            left += pow(challenge, j, P) * (keys[a] * keys[b] - given[first + j - 1] * KEY)
+        left = dealt_keys[len(given) + s]
+        for j, (a, b, i) in enumerate(products[first : first + job.section], 1):
+            left += pow(challenge, j, P) * (keys[a] * keys[b] - given[i] * KEY)
         left, right = left % P, (sums[2 * s] + sums[2 * s + 1] * KEY) % P
         if left != right:
             return 1, s, f"rejected-sum section={s} left={left} right={right}"
-    opened = range(circuit.wires - circuit.outputs, circuit.wires)
-    for o, (wire, bit, mac) in enumerate(zip(opened, job.outputs, macs)):
-        left, right = keys[wire], (mac + bit * KEY) % P
+    for o, ((wire, value), mac) in enumerate(zip(job.opened(), macs)):
+        left, right = keys[wire], (mac + value * KEY) % P
         if left != right:
             return 2, o, f"rejected-opening output={o} left={left} right={right}"
     return 0, 0, "accepted"
 
 
 def verify_steps(end: End, jobs: List[Job], grant: Grant) -> None:
-    job = take_statement(end, jobs, end.take(HELLO))
-    products = len(job.products())
+    job = take_statement(end, jobs, end.take(jobs[0].hello_place()))
     start, count = lease(end, job, grant)
     keys = take_keys(end, job, start, count)
-    corrections = read_elements(end.take(element_place(5, products)))
+    corrections = read_elements(end.take(element_place(5, job.claim.givens())))
     given = [(k + d * KEY) % P for k, d in zip(keys, corrections)]
     challenge = from_word(word(VERIFIER_COINS, 4 * start + 1, 0))
     end.send(frame(6, element(challenge)))
-    sums = read_elements(end.take(element_place(7, 2 * -(-products // job.section))))
-    macs = read_elements(end.take(element_place(8, job.claim.circuit.outputs)))
+    sums = read_elements(end.take(element_place(7, 2 * -(-len(job.claim.products()) // job.section))))
+    macs = read_elements(end.take(element_place(8, len(job.opened()))))
     verdict, number, outcome = judge(job, keys, given, challenge, sums, macs)
     end.send(frame(9, struct.pack("<BI", verdict, number)))
     raise Ended(outcome)
@@ -447,19 +449,18 @@ def take_pairs(end: End, job: Job, start: int, count: int) -> List[Tuple[int, in
 
 def answers(job: Job, section: int, pairs: List[Tuple[int, int]], challenge: int) -> bytes:
     """The frames of sums and openings."""
-    circuit, products = job.claim.circuit, job.products()
-    given = [m for _, m in pairs[: len(products)]]
-    w, m = bits_of_wires(job.claim), carried(job.claim, given, 0)
+    claim, products = job.claim, job.claim.products()
+    given = [m for _, m in pairs[: claim.givens()]]
+    w, m = claim.values(), claim.carried(given, 0)
     sums = []
     for s, first in enumerate(range(0, len(products), section)):
-        v, u = pairs[len(products) + s]
-        for j, (a, b) in enumerate(products[first : first + section], 1):
+        v, u = pairs[len(given) + s]
+        for j, (a, b, i) in enumerate(products[first : first + section], 1):
             power = pow(challenge, j, P)
             u += power * m[a] * m[b]
-            v += power * (w[a] * m[b] + w[b] * m[a] - given[first + j - 1])
+            v += power * (w[a] * m[b] + w[b] * m[a] - given[i])
         sums += [u % P, v % P]
-    opened = m[circuit.wires - circuit.outputs :]
-    return frame(7, elements(sums)) + frame(8, elements(opened))
+    return frame(7, elements(sums)) + frame(8, elements(m[wire] for wire, _ in job.opened()))
 
 
 def prove_steps(end: End, job: Job, claim: Claimant) -> None:
@@ -467,9 +468,8 @@ def prove_steps(end: End, job: Job, claim: Claimant) -> None:
     start, count, section = take_grant(end, job)
     claim_units(end, claim, start, count)
     pairs = take_pairs(end, job, start, count)
-    bits = bits_of_wires(job.claim)
-    products = job.products()
-    end.send(frame(5, elements([(bits[a] * bits[b] - x) % P for (a, b), (x, _) in zip(products, pairs)])))
+    given = job.claim.given_values()
+    end.send(frame(5, elements((value - x) % P for value, (x, _) in zip(given, pairs))))
     [challenge] = read_elements(end.take(CHALLENGE))
     end.send(answers(job, section, pairs, challenge))
     verdict, number = struct.unpack("<BI", end.take(VERDICT)[5:])

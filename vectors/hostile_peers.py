@@ -38,7 +38,7 @@ from ends import Link, hold, prove, verify
 from parties import GRANT_BYTES, HELLO_BYTES, TINY, Room, Span
 from processes import SECONDS, Ran, Service, end_all
 from published import AND_GATE
-from session_runs import Told
+from told import Told
 
 P_BYTES = struct.pack("<Q", P)
 

@@ -1,4 +1,4 @@
-"""Rooms where `serve` and `prove` of the built program meet, with their files, journals and logs.
+"""Rooms where `serve` and `prove` of the built program meet, or `serve-arith` and `prove-arith`, with their files, journals and logs.
 
 A room has one verifier's file with its journal, and the prover's file in the hands of some holders, each
 with a copy of file and journal, as nothing promises that two runs may use a journal at once. A holder
@@ -7,15 +7,16 @@ twice: that is what is tested. A prover that relies on no verifier has one file 
 """
 import pathlib
 import struct
-from typing import Dict, List, NamedTuple, Tuple
+from typing import Dict, List, NamedTuple, Optional, Tuple, Union
 
+import arithmetic
 import bristol
 from common import frame, sha256
 from dealt_files import Params, deal, journal
 from ends import Job, Link, hold, verify
 from processes import Process, Ran, Service
 from published import TOP
-from session import LONG, Claim, Extended, products_of
+from session import LONG, Claim, ElementsClaim, Extended
 
 Span = Tuple[int, int]
 
@@ -62,24 +63,87 @@ class Subject(NamedTuple):
     section: int = LONG
     public: int = 0
 
+    def command(self, name: str) -> str:
+        """The command of this name about such a circuit."""
+        return name
+
+    def files(self) -> Dict[str, bytes]:
+        """The files that commands take beside the circuit."""
+        return {}
+
     def words(self) -> List[str]:
         """The option that names the public bits."""
         return ["--public", self.bits[: self.public]] if self.public else []
 
     def private(self) -> str:
+        """The word of the prover's inputs."""
+        return self.found()
+
+    def outputs(self) -> str:
+        """The word of the claimed outputs."""
+        return bristol.word_of(list(self.job(0).outputs))
+
+    def found(self) -> str:
+        """The prover's inputs, as an audit says them."""
         return self.bits[self.public :] or "none"
 
     def job(self, total: int) -> Job:
         circuit = bristol.read(self.text)
         assert isinstance(circuit, bristol.Circuit)
         bits = [int(bit) for bit in self.bits]
-        params = Extended(self.kind.height, self.kind.trees, self.kind.base) if self.kind.kind else None
         claim = Claim(circuit, sha256(self.text), bits, self.public)
-        return Job(claim, tuple(bristol.evaluate(circuit, bits)), params, total, self.section)
+        return Job(claim, tuple(bristol.evaluate(circuit, bits)), extended_of(self.kind), total, self.section)
 
     def size(self) -> int:
         """The units of a session."""
         return self.job(0).units(self.section)
+
+
+def extended_of(kind: Params) -> Optional[Extended]:
+    return Extended(kind.height, kind.trees, kind.base) if kind.kind else None
+
+
+class ElementsSubject(NamedTuple):
+    """The same of sessions about an arithmetic circuit, at the prover's elements."""
+
+    name: str
+    text: bytes
+    inputs: List[int]
+    kind: Params = DIRECT
+    section: int = LONG
+
+    def command(self, name: str) -> str:
+        return f"{name}-arith"
+
+    def files(self) -> Dict[str, bytes]:
+        lists = {"values": self.inputs, "outputs": list(self.job(0).outputs)}
+        return {name: "".join(f"{element}\n" for element in elements).encode() for name, elements in lists.items()}
+
+    def words(self) -> List[str]:
+        return []
+
+    def private(self) -> str:
+        return "values"
+
+    def outputs(self) -> str:
+        return "outputs"
+
+    def found(self) -> str:
+        return arithmetic.word_of(self.inputs)
+
+    def job(self, total: int) -> Job:
+        circuit = arithmetic.read(self.text)
+        assert isinstance(circuit, arithmetic.Circuit)
+        outputs = arithmetic.evaluate(circuit, self.inputs)
+        assert isinstance(outputs, list)
+        claim = ElementsClaim(circuit, sha256(self.text), self.inputs)
+        return Job(claim, tuple(outputs), extended_of(self.kind), total, self.section)
+
+    def size(self) -> int:
+        return self.job(0).units(self.section)
+
+
+AnySubject = Union[Subject, ElementsSubject]
 
 
 def area_of(data: bytes) -> bytes:
@@ -110,13 +174,14 @@ def are_apart(spans: List[Span]) -> bool:
 class Room:
     """A folder with a pair of files, and the program."""
 
-    def __init__(self, program: str, folder: pathlib.Path, subject: Subject, total: int, holders: int):
+    def __init__(self, program: str, folder: pathlib.Path, subject: AnySubject, total: int, holders: int):
         self.program, self.folder, self.subject, self.total = [program], folder, subject, total
         self.job = subject.job(total)
         self.size = self.job.units(subject.section)
-        self.outputs = bristol.word_of(list(self.job.outputs))
+        self.outputs = subject.outputs()
         folder.mkdir()
-        (folder / "circuit").write_bytes(subject.text)
+        for name, data in {"circuit": subject.text, **subject.files()}.items():
+            self.put(name, data)
         self.deal()
         self.holders = [f"p{number}" for number in range(holders)]
         for holder in self.holders:
@@ -149,10 +214,10 @@ class Room:
     def service(self, sessions: int, workers: int) -> Service:
         words = ["x.verifier", "circuit", self.outputs, "--sessions", str(sessions)]
         words += ["--workers", str(workers), "--section", str(self.subject.section), "--logs", "log", *self.subject.words()]
-        return Service(self.program, self.folder, words)
+        return Service(self.program, self.folder, words, self.subject.command("serve"))
 
     def proving(self, place: str, holder: str) -> Process:
-        words = ["prove", place, holder, "circuit", self.subject.private(), self.outputs, *self.subject.words()]
+        words = [self.subject.command("prove"), place, holder, "circuit", self.subject.private(), self.outputs, *self.subject.words()]
         return Process(self.program, self.folder, words)
 
     # ---- journals
@@ -197,9 +262,9 @@ class Room:
         return log == whole, sent_by_prover(log)
 
     def check_audit(self, start: int, is_whole: bool) -> None:
-        """An audit of the stored log of this grant finds the prover's bits exactly where it is whole."""
-        words = ["audit", "circuit", self.outputs, "x.prover", "x.verifier", f"log.{start}", *self.subject.words()]
-        found = (f"inputs {self.subject.private()}\n", 0) if is_whole else ("not accepted\n", 1)
+        """An audit of the stored log of this grant finds the prover's inputs exactly where it is whole."""
+        words = [self.subject.command("audit"), "circuit", self.outputs, "x.prover", "x.verifier", f"log.{start}", *self.subject.words()]
+        found = (f"inputs {self.subject.found()}\n", 0) if is_whole else ("not accepted\n", 1)
         ran = self.run(*words)
         assert ran == found, (self.folder, start, ran)
 
@@ -229,14 +294,14 @@ class DealtRoom(Room):
 
     def frames(self) -> List[Tuple[int, int]]:
         """The kinds of the frames of a whole log, and the lengths of their payloads."""
-        products, params = len(self.job.products()), self.job.params
+        products, givens, params = len(self.job.claim.products()), self.job.claim.givens(), self.job.params
         lengths = [(1, len(self.job.hello()) - 5), (2, 16)]
         if params is not None:
             lengths += [(3, params.trees * (params.height + 8))] * self.size
             lengths += [(4, params.trees * (32 * params.height + 8))] * self.size
         sections = -(-products // self.subject.section)
-        lengths += [(5, 8 * products), (6, 8), (7, 16 * sections)]
-        return lengths + [(8, 8 * len(self.job.outputs)), (9, 5)]
+        lengths += [(5, 8 * givens), (6, 8), (7, 16 * sections)]
+        return lengths + [(8, 8 * len(self.job.opened())), (9, 5)]
 
     def check_log(self, start: int) -> Tuple[bool, int]:
         log, at = self.get(f"log.{start}"), 0

@@ -10,13 +10,14 @@ import json
 import struct
 from typing import Dict, List, Mapping, NamedTuple, Optional, Sequence, Set, Tuple, Union
 
+import arithmetic
 import bristol
 from auditor import audit
 from common import CODE_SEED, FILE_ID, P, PROVER_COINS, VERIFIER_COINS, sha256
 from dealt_files import MAGIC, MOST_UNITS as MOST_DEALT, Params, area, deal, header, header_of, journal, one_area, own_slots
 from ends import MOST_UNITS, End, Job, Link, prove_by, verify_by
 from generated import MOST_GENERATED, generate
-from session import LONG, Claim, Extended, products_of
+from session import LONG, AnyClaim, Claim, ElementsClaim, Extended
 
 FILE_LIMIT = 2**30
 
@@ -236,6 +237,23 @@ def load_circuit(outside: Outside, name: str) -> bristol.Circuit:
     return found
 
 
+def load_arith(outside: Outside, name: str) -> arithmetic.Circuit:
+    found = arithmetic.read(outside.load(name))
+    if not isinstance(found, arithmetic.Circuit):
+        raise Stopped(f"refused {found.name} {bristol.NUMBERS[found.name]} {found.place}", 3)
+    return found
+
+
+def load_elements(outside: Outside, name: str, need: int) -> List[int]:
+    """So many elements, which a file says."""
+    found = arithmetic.elements(outside.load(name))
+    if isinstance(found, int):
+        raise Stopped(f"refused BadValue 1 {found}", 3)
+    if len(found) != need:
+        raise Stopped(f"refused Count 2 {need} {len(found)}", 3)
+    return found
+
+
 def check_public(circuit: bristol.Circuit, public: List[int]) -> None:
     if len(public) > circuit.inputs:
         raise Stopped(f"refused public {circuit.inputs} {len(public)}", 3)
@@ -243,7 +261,7 @@ def check_public(circuit: bristol.Circuit, public: List[int]) -> None:
 
 def need_of(circuit: bristol.Circuit, public: List[int], section: int) -> Tuple[int, int, int]:
     """How many products, sections and correlations a session has."""
-    products = len(products_of(circuit, len(public)))
+    products = len(Claim(circuit, b"", public, len(public)).products())
     sections = -(-products // section)
     return products, sections, products + sections
 
@@ -296,6 +314,22 @@ def rehearsed(
         raise Stopped(f"too large {need} {units}", 9)
     lines = f"outputs {outputs}\nproducts {products} sections {sections} correlations {need} units {units}\naccepted\n"
     return Came(outside.say(lines, 0), f"rehearsed outputs={outputs} need={need} units={units}")
+
+
+def run_rehearse_arith(outside: Outside, words: List[str]) -> Came:
+    (name, values), options = sorted_words(words, ["--section"], ["--extended"])
+    section = read_number(options.get("--section", str(LONG)), 1, LONG)
+    circuit = load_arith(outside, name)
+    found = arithmetic.evaluate(circuit, load_elements(outside, values, circuit.inputs))
+    if isinstance(found, int):
+        raise Stopped(f"unsatisfied {circuit.outputs + found}", 1)
+    products, sections = circuit.products, -(-circuit.products // section)
+    need = circuit.inputs + products + sections
+    units = max(1, -(-need // (8 * 1024 if "--extended" in options else 64)))
+    if units > MOST_UNITS:
+        raise Stopped(f"too large {need} {units}", 9)
+    lines = f"outputs {arithmetic.word_of(found)}\nproducts {products} sections {sections} correlations {need} units {units}\naccepted\n"
+    return Came(outside.say(lines, 0), f"rehearsed elements={','.join(map(str, found))} need={need} units={units}")
 
 
 def unit_size(side: int, params: Params) -> int:
@@ -472,6 +506,16 @@ class Claimed(NamedTuple):
     outputs: List[int]
 
 
+class ClaimedElements(NamedTuple):
+    """An arithmetic circuit's file, and that of the outputs that are claimed."""
+
+    circuit: str
+    outputs: str
+
+
+AnyClaimed = Union[Claimed, ClaimedElements]
+
+
 class Service(NamedTuple):
     """What the words of a service name, beside what it is about."""
 
@@ -511,25 +555,29 @@ def read_statements(text: bytes) -> List[Claimed]:
     return statements
 
 
-def load_claim(outside: Outside, claimed: Claimed) -> Claim:
-    """The claim, whose circuit has inputs for the public bits and as many outputs."""
-    public, outputs = claimed.public, claimed.outputs
+def load_claim(outside: Outside, claimed: AnyClaimed) -> Tuple[AnyClaim, List[int]]:
+    """The claim, whose circuit has inputs for the public bits, and its outputs, which are as many as the circuit's."""
     text = outside.files.get(claimed.circuit, b"")
+    if isinstance(claimed, ClaimedElements):
+        elements_circuit = load_arith(outside, claimed.circuit)
+        found = load_elements(outside, claimed.outputs, elements_circuit.outputs)
+        return ElementsClaim(elements_circuit, sha256(text), []), found
+    public, outputs = claimed.public, claimed.outputs
     circuit = load_circuit(outside, claimed.circuit)
     check_public(circuit, public)
     if len(outputs) != circuit.outputs:
         raise Stopped(f"refused outputs {circuit.outputs} {len(outputs)}", 3)
-    return Claim(circuit, sha256(text), public, len(public))
+    return Claim(circuit, sha256(text), public, len(public)), outputs
 
 
-def served_jobs(outside: Outside, service: Service, statements: List[Claimed]) -> List[Job]:
+def served_jobs(outside: Outside, service: Service, statements: Sequence[AnyClaimed]) -> List[Job]:
     """What the sessions of a service are about."""
     section = service.section
     claims = [load_claim(outside, claimed) for claimed in statements]
     params = read_dealt(1, outside.load(service.file))
     jobs = []
-    for claim, claimed in zip(claims, statements):
-        jobs.append(Job(claim, tuple(claimed.outputs), extended_of(params), params.total, section))
+    for claim, outputs in claims:
+        jobs.append(Job(claim, tuple(outputs), extended_of(params), params.total, section))
         if jobs[-1].units(section) > MOST_UNITS:
             raise Stopped(f"too large {jobs[-1].need(section)} {jobs[-1].units(section)}", 9)
     return jobs
@@ -866,7 +914,12 @@ def run_serve_many(outside: Outside, words: List[str], peers: List[Link]) -> Cam
     return serve(outside, service, read_statements(outside.load(statements)), peers)
 
 
-def serve(outside: Outside, service: Service, statements: List[Claimed], peers: List[Link]) -> Came:
+def run_serve_arith(outside: Outside, words: List[str], peers: List[Link]) -> Came:
+    (address, file, circuit, outputs), options = sorted_words(words, SERVICE_OPTIONS, ["--follow"])
+    return serve(outside, read_service(address, file, options), [ClaimedElements(circuit, outputs)], peers)
+
+
+def serve(outside: Outside, service: Service, statements: Sequence[AnyClaimed], peers: List[Link]) -> Came:
     jobs = served_jobs(outside, service, statements)
     leases = open_leases(outside.disk, jobs[0].total)
     outside.ask_door()
@@ -944,7 +997,29 @@ def proved_job(outside: Outside, proof: Proof) -> Job:
 
 
 def run_prove(outside: Outside, words: List[str], peers: List[Link]) -> Came:
-    job = proved_job(outside, read_proof(outside, words))
+    return prove(outside, proved_job(outside, read_proof(outside, words)), peers)
+
+
+def run_prove_arith(outside: Outside, words: List[str], peers: List[Link]) -> Came:
+    (_, file, name, values, outputs), options = sorted_words(words, ["--timeout"], [])
+    read_number(options.get("--timeout", "120"), 1, 86400)
+    text = outside.files.get(name, b"")
+    circuit = load_arith(outside, name)
+    inputs = load_elements(outside, values, circuit.inputs)
+    claimed = load_elements(outside, outputs, circuit.outputs)
+    given = arithmetic.evaluate(circuit, inputs)
+    if isinstance(given, int):
+        raise Stopped(f"unsatisfied {circuit.outputs + given}", 1)
+    differing = [output for output in range(circuit.outputs) if given[output] != claimed[output]]
+    if differing:
+        raise Stopped(f"unsatisfied {differing[0]}", 1)
+    params = read_dealt(0, outside.load(file))
+    claim = ElementsClaim(circuit, sha256(text), inputs)
+    return prove(outside, Job(claim, tuple(claimed), extended_of(params), params.total, LONG), peers)
+
+
+def prove(outside: Outside, job: Job, peers: List[Link]) -> Came:
+    """The session of this prover with the first of the peers."""
     claims = open_claims(outside.disk, job.total)
     outside.ask_door()
     if not peers:
@@ -1063,10 +1138,20 @@ def run_audit(outside: Outside, words: List[str]) -> Came:
     said = bits_word(options.get("--public", "none")), bits_word(outputs)
     public = bits_given(outside, said[0], circuit, "public")
     claimed = Claimed(circuit, public, bits_given(outside, said[1], circuit, "outputs"))
-    claim = load_claim(outside, claimed)
+    return audit_files(outside, claimed, prover, verifier, log)
+
+
+def run_audit_arith(outside: Outside, words: List[str]) -> Came:
+    (circuit, outputs, prover, verifier, log), _ = sorted_words(words, [], [])
+    return audit_files(outside, ClaimedElements(circuit, outputs), prover, verifier, log)
+
+
+def audit_files(outside: Outside, claimed: AnyClaimed, prover: str, verifier: str, log: str) -> Came:
+    """What is found in the log of a session about this claim, over these files."""
+    claim, outputs = load_claim(outside, claimed)
     read_dealt(0, outside.load(prover))
     params = read_dealt(1, outside.load(verifier))
-    job = Job(claim, tuple(claimed.outputs), extended_of(params), params.total, LONG)
+    job = Job(claim, tuple(outputs), extended_of(params), params.total, LONG)
     name, *fields = audit(job, outside.load(log)).split(":")
     line, status = FOUND[name]
     text = line.format(*fields, rest=" ".join(fields[1:]), all=" ".join(fields))
@@ -1076,7 +1161,9 @@ def run_audit(outside: Outside, words: List[str]) -> Came:
 def run(outside: Outside, words: List[str], peers: List[Link]) -> Came:
     """What comes of these words, with these peers at the door, or the first of them to connect to."""
     commands = {"eval": run_eval, "rehearse": run_rehearse, "deal": run_deal, "audit": run_audit, "migrate": run_migrate, "status": run_status}
+    commands |= {"rehearse-arith": run_rehearse_arith, "audit-arith": run_audit_arith}
     parties = {"serve": run_serve, "serve-many": run_serve_many, "prove": run_prove}
+    parties |= {"serve-arith": run_serve_arith, "prove-arith": run_prove_arith}
     try:
         if words[0] in parties:
             return parties[words[0]](outside, words[1:], peers)

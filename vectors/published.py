@@ -10,9 +10,10 @@ import pathlib
 import sys
 from typing import List, NamedTuple, Optional
 
+import arithmetic
 import bristol
 from common import sha256
-from session import LONG, Claim, Extended, accepted
+from session import LONG, AnyClaim, Claim, ElementsClaim, Extended, accepted
 
 TOP = pathlib.Path(__file__).resolve().parent.parent
 
@@ -21,20 +22,35 @@ FIVE_GATES = (
 )
 
 
+FOUR_GATES = b"4 4 1 1 MUL 0 0 1 CONST 2305843009213693942 2 ADD 1 2 3 ASSERT 3\n"
+
+
 class Published(NamedTuple):
-    """A session: its name, the circuit's text, the bits, the files' numbers, and the length of sections."""
+    """A session: its name, the circuit's text, the bits, or the elements of an arithmetic one, the files' numbers, and the length of sections."""
 
     name: str
     text: bytes
-    bits: List[int]
+    inputs: List[int]
     params: Optional[Extended]
     section: int
+
+    def claim(self) -> AnyClaim:
+        """The claim that it is about."""
+        circuit = arithmetic.read(self.text)
+        if isinstance(circuit, arithmetic.Circuit):
+            return ElementsClaim(circuit, sha256(self.text), self.inputs)
+        bits_circuit = bristol.read(self.text)
+        assert isinstance(bits_circuit, bristol.Circuit)
+        return Claim(bits_circuit, sha256(self.text), self.inputs)
 
 
 ADDER = (TOP / "examples" / "adder64.txt").read_bytes()
 TURNS = [1, 0] * 64
 
 AND_GATE = (TOP / "examples" / "and.txt").read_bytes()
+BALANCES, VALUES = ((TOP / "examples" / f"balances.{end}").read_bytes() for end in ("txt", "values"))
+ELEMENTS = arithmetic.elements(VALUES)
+assert isinstance(ELEMENTS, list)
 
 SESSIONS = [
     Published("AND_DIRECT", AND_GATE, [1, 1], None, LONG),
@@ -46,16 +62,23 @@ SESSIONS = [
 ]
 
 
+# The same about arithmetic circuits.
+ARITH_SESSIONS = [
+    Published("FOUR_GATES_DIRECT", FOUR_GATES, [3], None, LONG),
+    Published("FOUR_GATES_EXTENDED", FOUR_GATES, [3], Extended(height=1, trees=1, base=10), LONG),
+    Published("BALANCES_DIRECT", BALANCES, ELEMENTS, None, 50),
+    Published("BALANCES_EXTENDED", BALANCES, ELEMENTS, Extended(height=6, trees=2, base=10), LONG),
+]
+
+
 def log_of(given: Published) -> bytes:
-    circuit = bristol.read(given.text)
-    assert isinstance(circuit, bristol.Circuit)
-    return b"".join(accepted(Claim(circuit, sha256(given.text), given.bits), given.params, given.section))
+    return b"".join(accepted(given.claim(), given.params, given.section))
 
 
 def main() -> int:
     document = (TOP / "docs" / "PROTOCOL.md").read_text()
     wrong = 0
-    for given in SESSIONS:
+    for given in SESSIONS + ARITH_SESSIONS:
         log = log_of(given)
         digest = sha256(log).hex()
         print(f"{given.name}: {len(log)} bytes {digest}")

@@ -2,13 +2,14 @@
 
 Both ends are computed, from the files that the seed of 32 bytes 7 gives: what the prover finds must fit the verifier's keys, and
 the two sides of each equation must agree. It follows `docs/PROTOCOL.md`, and shares nothing with the program. Circuits are read
-by `bristol.py`.
+by `bristol.py`, and arithmetic ones by `arithmetic.py`.
 """
 import functools
 import struct
-from typing import List, NamedTuple, Optional, Tuple
+from typing import List, NamedTuple, Optional, Sequence, Tuple, Union
 
-from bristol import Circuit, evaluate
+import arithmetic
+import bristol
 from chacha import word
 from common import (
     CODE_SEED,
@@ -40,10 +41,18 @@ class Extended(NamedTuple):
     base: int
 
 
-class Claim(NamedTuple):
-    """A circuit, the digest of its file that a hello has, the input bits, and how many of the first are public."""
+class Product(NamedTuple):
+    """The wires of two factors, and which given value is to be their product."""
 
-    circuit: Circuit
+    a: int
+    b: int
+    given: int
+
+
+class Claim(NamedTuple):
+    """A Boolean circuit, the digest of its file that a hello has, the input bits, and how many of the first are public."""
+
+    circuit: bristol.Circuit
     digest: bytes
     bits: List[int]
     public: int = 0
@@ -51,14 +60,145 @@ class Claim(NamedTuple):
     def public_bits(self) -> List[int]:
         return self.bits[: self.public]
 
-    def public_digest(self) -> bytes:
-        return sha256("".join(map(str, self.public_bits())).encode())
+    def version(self, is_long: bool = False) -> int:
+        """The version of a hello, by its form."""
+        return 2 if is_long else 1
 
-    def hello(self, outputs: List[int]) -> bytes:
+    def digests(self, outputs: Sequence[int]) -> bytes:
+        """The digests of its statement: of the circuit's text, of the claimed outputs, and of the public bits."""
+        said = ("".join(map(str, bits)).encode() for bits in (outputs, self.public_bits()))
+        return self.digest + b"".join(map(sha256, said))
+
+    def hello(self, outputs: Sequence[int]) -> bytes:
         """The hello about these outputs: in the long form exactly where there are public bits."""
-        digests = self.digest + sha256("".join(map(str, outputs)).encode())
-        form = bytes([2]) + self.public_digest() if self.public else bytes([1])
-        return frame(1, FILE_ID + digests + form)
+        digests, version = self.digests(outputs), bytes([self.version(self.public > 0)])
+        return frame(1, FILE_ID + digests[:64] + version + digests[64:] * (self.public > 0))
+
+    def givens(self) -> int:
+        """How many values are given: one for each product."""
+        return len(self.products())
+
+    def products(self) -> List[Product]:
+        """Each private input wire times itself, then the two wires of each XOR and AND."""
+        pairs = [(wire, wire) for wire in range(self.public, self.circuit.inputs)]
+        pairs += [gate.inputs for gate in self.circuit.gates if gate.name in ("XOR", "AND")]
+        return [Product(a, b, i) for i, (a, b) in enumerate(pairs)]
+
+    def carried(self, given: List[int], one: int) -> List[int]:
+        """A number for each wire, from the given ones: values where `one` is 1, MACs where it is 0, keys where it is the key."""
+        circuit, private = self.circuit, self.circuit.inputs - self.public
+        wires = [bit * one for bit in self.public_bits()] + given[:private] + [0] * (circuit.wires - circuit.inputs)
+        rest = iter(given[private:])
+        for name, reads, output in circuit.gates:
+            if name == "EQ":
+                wires[output] = reads[0] * one
+            elif name == "EQW":
+                wires[output] = wires[reads[0]]
+            elif name == "INV":
+                wires[output] = (one - wires[reads[0]]) % P
+            elif name == "AND":
+                wires[output] = next(rest)
+            else:
+                wires[output] = (wires[reads[0]] + wires[reads[1]] - 2 * next(rest)) % P
+        return wires
+
+    def values(self) -> List[int]:
+        """The bit of each wire, by the truth tables."""
+        circuit = self.circuit
+        bits = self.bits + [0] * (circuit.wires - circuit.inputs)
+        for name, reads, output in circuit.gates:
+            known = [bits[wire] for wire in reads] if name != "EQ" else list(reads)
+            bits[output] = {"XOR": sum(known) % 2, "AND": int(all(known)), "INV": 1 - known[0]}.get(name, known[0])
+        assert bits[circuit.wires - circuit.outputs :] == bristol.evaluate(circuit, self.bits)
+        return bits
+
+    def outputs(self) -> List[int]:
+        """What the circuit gives."""
+        return self.values()[self.circuit.wires - self.circuit.outputs :]
+
+    def given_values(self) -> List[int]:
+        """The products of bits that an honest prover gives."""
+        bits = self.values()
+        return [bits[a] * bits[b] for a, b, _ in self.products()]
+
+    def opened(self, outputs: Sequence[int]) -> List[Tuple[int, int]]:
+        """The output wires, each with what is claimed of it."""
+        return list(zip(range(self.circuit.wires - self.circuit.outputs, self.circuit.wires), outputs))
+
+    def private_word(self, values: List[int]) -> str:
+        """The private inputs among the values of all wires, as they are printed."""
+        inputs = values[self.public : self.circuit.inputs]
+        assert all(value in (0, 1) for value in inputs)
+        return bristol.word_of(inputs)
+
+
+class ElementsClaim(NamedTuple):
+    """An arithmetic circuit, the digest of its file, and the input elements."""
+
+    circuit: arithmetic.Circuit
+    digest: bytes
+    inputs: List[int]
+
+    def version(self, is_long: bool = False) -> int:
+        """The version of a hello, which has one form."""
+        assert not is_long
+        return 4
+
+    def digests(self, outputs: Sequence[int]) -> bytes:
+        """The digests of its statement, as those of a Boolean circuit: of the claimed elements, and of no public bits."""
+        return self.digest + sha256(elements(outputs)) + sha256(b"")
+
+    def hello(self, outputs: Sequence[int]) -> bytes:
+        return frame(1, FILE_ID + self.digests(outputs)[:64] + bytes([self.version()]))
+
+    def givens(self) -> int:
+        """How many values are given: one for each input, and one for each product."""
+        return self.circuit.inputs + self.circuit.products
+
+    def products(self) -> List[Product]:
+        """The two wires of each MUL, whose given value is behind those of the inputs and of earlier ones."""
+        pairs = [gate.reads for gate in self.circuit.gates if gate.name == "MUL"]
+        return [Product(a, b, self.circuit.inputs + i) for i, (a, b) in enumerate(pairs)]
+
+    def carried(self, given: List[int], one: int) -> List[int]:
+        """A number for each wire, from the given ones: values where `one` is 1, MACs where it is 0, keys where it is the key."""
+        circuit = self.circuit
+        wires = given[: circuit.inputs] + [0] * (circuit.wires - circuit.inputs)
+        rest = iter(given[circuit.inputs :])
+        for gate in circuit.gates:
+            if gate.name == "MUL":
+                wires[gate.output] = next(rest)
+            elif gate.name == "ADD":
+                wires[gate.output] = sum(wires[wire] for wire in gate.reads) % P
+            elif gate.name == "CONST":
+                wires[gate.output] = gate.value * one % P
+        return wires
+
+    def values(self) -> List[int]:
+        """The element of each wire."""
+        return arithmetic.values(self.circuit, self.inputs)
+
+    def outputs(self) -> List[int]:
+        """What the circuit gives."""
+        return self.values()[self.circuit.wires - self.circuit.outputs :]
+
+    def given_values(self) -> List[int]:
+        """The inputs and the products that an honest prover gives."""
+        values = self.values()
+        return self.inputs + [values[a] * values[b] % P for a, b, _ in self.products()]
+
+    def opened(self, outputs: Sequence[int]) -> List[Tuple[int, int]]:
+        """The output wires, each with what is claimed of it, and then each wire that is asserted to be 0."""
+        circuit = self.circuit
+        asserted = [gate.reads[0] for gate in circuit.gates if gate.name == "ASSERT"]
+        return list(zip(range(circuit.wires - circuit.outputs, circuit.wires), outputs)) + [(wire, 0) for wire in asserted]
+
+    def private_word(self, values: List[int]) -> str:
+        """The inputs among the values of all wires, as they are printed."""
+        return arithmetic.word_of(values[: self.circuit.inputs])
+
+
+AnyClaim = Union[Claim, ElementsClaim]
 
 
 # ---- extension
@@ -153,52 +293,6 @@ def extend(params: Extended, unit: int, wrong: Optional[str] = None) -> Tuple[by
     return frame(3, ask), frame(4, reply), [Correlation(*each) for each in zip(values, macs, keys)]
 
 
-# ---- the circuit's program
-
-
-class Product(NamedTuple):
-    """The wires of two factors."""
-
-    a: int
-    b: int
-
-
-def products_of(circuit: Circuit, public: int) -> List[Product]:
-    """Each private input wire times itself, then the two wires of each XOR and AND."""
-    bit_checks = [Product(wire, wire) for wire in range(public, circuit.inputs)]
-    return bit_checks + [Product(*gate.inputs) for gate in circuit.gates if gate.name in ("XOR", "AND")]
-
-
-def carried(claim: Claim, given: List[int], one: int) -> List[int]:
-    """A number for each wire, from one for each product: values where `one` is 1, MACs where it is 0, keys where it is the key."""
-    circuit, private = claim.circuit, claim.circuit.inputs - claim.public
-    wires = [bit * one for bit in claim.public_bits()] + given[:private] + [0] * (circuit.wires - circuit.inputs)
-    rest = iter(given[private:])
-    for name, reads, output in circuit.gates:
-        if name == "EQ":
-            wires[output] = reads[0] * one
-        elif name == "EQW":
-            wires[output] = wires[reads[0]]
-        elif name == "INV":
-            wires[output] = (one - wires[reads[0]]) % P
-        elif name == "AND":
-            wires[output] = next(rest)
-        else:
-            wires[output] = (wires[reads[0]] + wires[reads[1]] - 2 * next(rest)) % P
-    return wires
-
-
-def bits_of_wires(claim: Claim) -> List[int]:
-    """The bit of each wire, by the truth tables."""
-    circuit = claim.circuit
-    bits = claim.bits + [0] * (circuit.wires - circuit.inputs)
-    for name, reads, output in circuit.gates:
-        known = [bits[wire] for wire in reads] if name != "EQ" else list(reads)
-        bits[output] = {"XOR": sum(known) % 2, "AND": int(all(known)), "INV": 1 - known[0]}.get(name, known[0])
-    assert bits[circuit.wires - circuit.outputs :] == evaluate(circuit, claim.bits)
-    return bits
-
-
 # ---- sessions
 
 
@@ -220,38 +314,37 @@ def correlations(params: Optional[Extended], need: int, wrong: Optional[str]) ->
     return units, frames, [each for _, _, made in rounds for each in made]
 
 
-def session(claim: Claim, params: Optional[Extended], section: int, wrong: Optional[str] = None) -> Session:
+def session(claim: AnyClaim, params: Optional[Extended], section: int, wrong: Optional[str] = None) -> Session:
     """A session over files of just the units that it takes. `wrong` names what is wrong with the first unit's ask."""
-    circuit, products = claim.circuit, products_of(claim.circuit, claim.public)
+    products = claim.products()
     sections = [products[i : i + section] for i in range(0, len(products), section)]
-    units, rounds, made = correlations(params, len(products) + len(sections), wrong)
-    bits = bits_of_wires(claim)
-    values = [bits[a] * bits[b] for a, b in products]
+    units, rounds, made = correlations(params, claim.givens() + len(sections), wrong)
+    values = claim.given_values()
     corrections = [(value - c.x) % P for value, c in zip(values, made)]
-    given_macs = [c.m for c in made[: len(products)]]
+    given_macs = [c.m for c in made[: len(values)]]
     given_keys = [(c.k + d * KEY) % P for c, d in zip(made, corrections)]
-    w, m, k = (carried(claim, given, one) for given, one in ((values, 1), (given_macs, 0), (given_keys, KEY)))
+    w, m, k = (claim.carried(given, one) for given, one in ((values, 1), (given_macs, 0), (given_keys, KEY)))
     challenge = from_word(word(VERIFIER_COINS, 1, 0))
     sums, sides = [], []
     for s, part in enumerate(sections):
-        mask = made[len(products) + s]
+        mask = made[len(values) + s]
         u, v, left = mask.m, mask.x, mask.k
-        for j, (a, b) in enumerate(part, 1):
-            i, power = s * section + j - 1, pow(challenge, j, P)
+        for j, (a, b, i) in enumerate(part, 1):
+            power = pow(challenge, j, P)
             u += power * m[a] * m[b]
             v += power * (w[a] * m[b] + w[b] * m[a] - given_macs[i])
             left += power * (k[a] * k[b] - given_keys[i] * KEY)
         sums += [u % P, v % P]
         sides.append((left % P, (u + v * KEY) % P))
-    opened = range(circuit.wires - circuit.outputs, circuit.wires)
-    assert wrong or all(k[o] == (m[o] + bits[o] * KEY) % P for o in opened)
-    greeting = claim.hello([bits[o] for o in opened])
+    outputs = claim.outputs()
+    opened = claim.opened(outputs)
+    assert wrong or all(k[wire] == (m[wire] + value * KEY) % P for wire, value in opened)
     grant = frame(2, struct.pack("<QII", 0, units, section))
     answers = [frame(5, elements(corrections)), frame(6, element(challenge)), frame(7, elements(sums))]
-    return Session([greeting, grant, *rounds, *answers, frame(8, elements([m[o] for o in opened]))], sides)
+    return Session([claim.hello(outputs), grant, *rounds, *answers, frame(8, elements([m[wire] for wire, _ in opened]))], sides)
 
 
-def accepted(claim: Claim, params: Optional[Extended], section: int) -> List[bytes]:
+def accepted(claim: AnyClaim, params: Optional[Extended], section: int) -> List[bytes]:
     """All frames of a session that is accepted."""
     frames, sides = session(claim, params, section)
     assert all(left == right for left, right in sides)

@@ -16,17 +16,18 @@ import struct
 import sys
 from typing import Callable, Dict, Iterable, Iterator, List, NamedTuple, Optional, Tuple
 
+import arith_runs
 import bristol
 import dealt_files
 import program
 import stored_runs
 from auditor import audit
-from chacha import word
-from common import KEY, P, VERIFIER_COINS, dealt_correlations, element, frame, from_word, sha256
+from common import P, element, frame, sha256
 from dealt_files import MANY_UNITS
 from ends import MOST_RECEIVED, MOST_UNITS, End, Job, Link, hold, prove, verify
-from published import ADDER, AND_GATE, FIVE_GATES, SESSIONS, log_of
-from session import LONG, Claim, Extended, accepted, carried, sent_by_prover, sent_by_verifier, session
+from published import ADDER, AND_GATE, ARITH_SESSIONS, FIVE_GATES, SESSIONS, log_of
+from session import LONG, Claim, Extended, accepted, sent_by_prover, session
+from told import CHALLENGE_COIN, Told
 
 TOP = pathlib.Path(__file__).resolve().parent.parent
 CRATE = TOP / "crates" / "session_runs"
@@ -65,6 +66,9 @@ CIRCUITS = {
     "too_many_inputs.txt": inputs_text(2 * MANY_INPUTS),
 }
 READ = {name: bristol.read(text) for name, text in CIRCUITS.items()}
+
+# The texts that runs are given, with those of arithmetic circuits.
+TEXTS = {**CIRCUITS, **stored_runs.arith_texts()}
 
 ONE_TREE = {"files": "1,1,10", "units": "2"}
 EIGHT_TREES = {"files": "8,10,64"}
@@ -212,13 +216,14 @@ def audit_lines(scenario: Scenario) -> List[str]:
 def outside_of(scenario: Scenario, kind: int) -> program.Outside:
     """What a run is given, with the journal of this kind."""
     name = scenario.words.get("circuit", "and.txt")
-    text = CIRCUITS[name] + scenario.words.get("tail", "").replace("_", " ").encode()
+    text = TEXTS[name] + scenario.words.get("tail", "").replace("_", " ").encode()
     params, total = scenario.params(), scenario.number("units", 1)
     numbers = (0, 0, 0, 0) if params is None else (1, params.height, params.trees, params.base)
     dealt = zip(("x.prover", "x.verifier"), program.dealt_by(dealt_files.Params(*numbers, total)), pairs_of(scenario, "versions", "1,1"))
     files = {side: damaged(scenario, in_version(data, version)) for side, data, version in dealt}
     files[name] = text.ljust(scenario.number("size", 0), b"\n")
-    files["statements"] = scenario.words.get("statements", "").replace("+", " ").replace("/", "\n").encode()
+    for text_name in ("statements", "values", "claimed"):
+        files[text_name] = scenario.words.get(text_name, "").replace("+", " ").replace("/", "\n").encode()
     files["log"] = bytes.fromhex(scenario.words.get("log", ""))
     fails, lacks = ({each: scenario.number(f"{each}-{how}", 0) for each in ("shelf", "sink", "door")} for how in ("fails", "lacks"))
     disk = program.Disk(journal_of(scenario, kind, total), scenario.number("disk-fails", 0))
@@ -315,7 +320,7 @@ def run_line(scenario: Scenario, name: str, words: List[str], peers: List[Link],
 
 def run_lines(scenario: Scenario, name: str, words: List[str], peers: Callable[[], List[Link]]) -> List[str]:
     """The line of a run, and where a crash follows that of the same over what it leaves of the disk, where no call is refused."""
-    claims = words[0] == "prove" or words[:2] in (["migrate", "prover"], ["status", "x.prover"])
+    claims = words[0] in ("prove", "prove-arith") or words[:2] in (["migrate", "prover"], ["status", "x.prover"])
     outside = outside_of(scenario, 0 if claims else 1)
     lines = [run_line(scenario, name, words, peers(), outside)]
     if "crash" in scenario.words:
@@ -326,13 +331,30 @@ def run_lines(scenario: Scenario, name: str, words: List[str], peers: Callable[[
 
 
 def words_lines(scenario: Scenario) -> List[str]:
-    circuit = READ[scenario.words.get("circuit", "and.txt")]
     words = scenario.words["words"].split(",")
     if "BITS" in words:
-        pattern = scenario.words.get("bits", "1")
+        circuit, pattern = READ[scenario.words.get("circuit", "and.txt")], scenario.words.get("bits", "1")
         private = range(scenario.number("public", 0), circuit.inputs)
         words[words.index("BITS")] = "".join(pattern[i % len(pattern)] for i in private)
-    return run_lines(scenario, "", words, list)
+    scripts = [bytes.fromhex(script) for script in scenario.words.get("calls", "").split(",") if script]
+    return peers_lines(scenario, words, scripts)
+
+
+def peers_lines(scenario: Scenario, words: List[str], honest: List[bytes]) -> List[str]:
+    """Runs of these words with these peers, which are honest but for the one that is stated."""
+    stated = scenario.number("peer", 0)
+    lines = []
+    script = honest[stated] if stated < len(honest) else b""
+    for name, changed_script, refused in cases_of(scenario, script_of(scenario, script)):
+
+        def peers() -> List[Link]:
+            calling = [Link(each) for each in honest]
+            link = Link(changed_script, scenario.number("pieces", MOST_RECEIVED), **refused)
+            calling[stated : stated + 1] = [link] if calling else []
+            return calling
+
+        lines += run_lines(scenario, name, words, peers)
+    return lines
 
 
 def service_words(scenario: Scenario, job: Job) -> List[str]:
@@ -355,28 +377,13 @@ def service_lines(scenario: Scenario, job: Job) -> List[str]:
     """The peers that call are honest, each over the units after those of the peer before, but for the one that is stated."""
     first, size = scenario.number("start", 0), job.units(job.section)
     honest = [hold(job, first + size * number)[0] for number in range(scenario.number("peers", 1))]
-    stated = scenario.number("peer", 0)
-    lines = []
-    script = honest[stated] if stated < len(honest) else b""
-    for name, changed_script, refused in cases_of(scenario, script_of(scenario, script)):
-
-        def peers() -> List[Link]:
-            calling = [Link(each) for each in honest]
-            link = Link(changed_script, scenario.number("pieces", MOST_RECEIVED), **refused)
-            calling[stated : stated + 1] = [link] if calling else []
-            return calling
-
-        lines += run_lines(scenario, name, service_words(scenario, job), peers)
-    return lines
+    return peers_lines(scenario, service_words(scenario, job), honest)
 
 
 def proof_lines(scenario: Scenario, job: Job, honest: bytes) -> List[str]:
     words = ["prove", "here", "x.prover", scenario.words.get("circuit", "and.txt")]
     words += [bristol.word_of(job.claim.bits[job.claim.public :]), bristol.word_of(list(job.outputs))] + public_words(job)
-    lines = []
-    for name, script, refused in cases_of(scenario, script_of(scenario, honest)):
-        lines += run_lines(scenario, name, words, lambda: [Link(script, scenario.number("pieces", MOST_RECEIVED), **refused)])
-    return lines
+    return peers_lines(scenario, words, [honest])
 
 
 def lines_of(scenario: Scenario) -> List[str]:
@@ -1319,37 +1326,6 @@ def audit_runs() -> List[Scenario]:
     return scenarios + [run(AUDIT.replace(" 1 ", f" {words['outputs']} "), log=words["more"]) for words in told]
 
 
-class Told(NamedTuple):
-    """A prover that is told the verifier's key and coins: it fixes these values, and sends what meets the checks but for `spoilt`."""
-
-    job: Job
-    fixed: List[int]
-    spoilt: int = 0
-
-    def log(self) -> bytes:
-        job, products = self.job, self.job.products()
-        dealt = dealt_correlations(0, 64)
-        values = carried(job.claim, self.fixed, 1)
-        tags = carried(job.claim, [c.m for c in dealt[: len(products)]], 0)
-        challenge = CHALLENGE_COIN
-        constant, linear, last = dealt[len(products)].m, dealt[len(products)].x, 0
-        for j, ((a, b), c) in enumerate(zip(products, self.fixed)):
-            power = pow(challenge, j + 1, P)
-            constant += power * tags[a] * tags[b]
-            linear += power * (values[a] * tags[b] + values[b] * tags[a] - dealt[j].m)
-            last += power * (values[a] * values[b] - c)
-        opened = range(job.claim.circuit.wires - job.claim.circuit.outputs, job.claim.circuit.wires)
-        macs = [(tags[wire] + (values[wire] - bit) * KEY) % P for wire, bit in zip(opened, job.outputs)]
-        corrections = [element((c - dealt[i].x) % P) for i, c in enumerate(self.fixed)]
-        sums = element((constant + self.spoilt) % P) + element((linear + last * KEY) % P)
-        sent = job.hello() + frame(5, b"".join(corrections)) + frame(7, sums) + frame(8, b"".join(map(element, macs)))
-        _, end = verify(job, Link(sent))
-        return b"".join(data for _, data in end.log)
-
-
-CHALLENGE_COIN = from_word(word(VERIFIER_COINS, 1, 0))
-
-
 def told_provers() -> List[Scenario]:
     """Audits of sessions with provers that are told the key, and so make the verifier accept what is not so."""
 
@@ -1416,6 +1392,7 @@ def all_scenarios() -> List[Scenario]:
     parts += [false_proofs(), stopped_proofs(), words_of_no_proof(), journals_of_claims()]
     parts += [public_sessions(), several_statements(), public_runs(), generated_runs(), public_ends(), audits()]
     parts += [many_services(), statement_files(), audit_runs()]
+    parts += [[run(words, **given) for words, given in arith_runs.rows()]]
     parts += [areas(), heads(), full_claims(), full_ceilings(), refused_sends()]
     parts += [dealings(), versions(), file_faults(), migrations()]
     parts += [lacking_runs(), lacking_sessions(), lacking_ends(), stops()]
@@ -1431,6 +1408,11 @@ def check_published(written: Dict[str, List[str]]) -> None:
         log = log_of(given)
         for written_line in written[scenario.line()]:
             assert f" bytes={len(log)} sha256={sha256(log).hex()} " in written_line, scenario.line()
+    for given in ARITH_SESSIONS:
+        log = log_of(given)
+        said = f" bytes={len(log)} sha256={sha256(log).hex()}"
+        having = [each for lines in written.values() for each in lines if said in each]
+        assert all(any(f" {end} accepted " in each for each in having) for end in ("served", "proved")), given.name
 
 
 def main() -> int:

@@ -553,6 +553,10 @@ ARITH_TEXTS = {
     "arith_input.txt": b"1 2 2 2 ASSERT 1\n",
     "arith_constants.txt": b"3 3 0 3 CONST 2305843009213693950 0 CONST 007 1 ADD 0 1 2\n",
     "arith_wrap.txt": b"2 4 2 2 ADD 0 1 2 MUL 0 1 3\n",
+    "arith_two_products.txt": b"2 4 2 1 MUL 0 1 2 MUL 2 2 3\n",
+    # Of inputs alone, without outputs: the first takes 4,096 direct units, and the second one more.
+    "arith_most_inputs.txt": b"0 262144 262144 0\n",
+    "arith_more_inputs.txt": b"0 262145 262145 0\n",
 }
 
 # A text for each fault of arithmetic circuits, of which two have an earlier one; and its token or wire.
@@ -579,6 +583,8 @@ VALUES = {
     "empty.values": b" \n",
     "none.values": b"none",
     "beyond.values": b"1 2305843009213693951",
+    "nought.values": b"0\n",
+    "sum.values": b"4295003495\n",
 }
 
 
@@ -600,9 +606,14 @@ def arith_files() -> Dict[str, bytes]:
     return {**ARITH_TEXTS, **faulty, **VALUES, "arith_chain.txt": arith_chain()}
 
 
+def arith_texts() -> Dict[str, bytes]:
+    """The same with those of the example."""
+    return {**arith_files(), **{name: (EXAMPLES / name).read_bytes() for name in ("balances.txt", "balances.values")}}
+
+
 def rehearse_arith_run(file: str, values: str, section: Optional[int] = None, extended: bool = False) -> Run:
     """A rehearsal of an arithmetic circuit: a correlation for each input, each MUL and each section."""
-    texts = {**arith_files(), **{name: (EXAMPLES / name).read_bytes() for name in ("balances.txt", "balances.values")}}
+    texts = arith_texts()
     circuit, inputs = arithmetic.read(texts[file]), arithmetic.elements(texts[values])
     assert isinstance(circuit, arithmetic.Circuit) and isinstance(inputs, list)
     words = f"rehearse-arith {file} {values}" + (f" --section {section}" if section else "") + (" --extended" if extended else "")
@@ -650,6 +661,114 @@ def arithmetic_runs() -> List[Run]:
     return runs + arith_refusals()
 
 
+def arith_services() -> List[Run]:
+    """Services about arithmetic circuits, over the files of the other services: the circuit's file comes first, then that of the outputs."""
+    given: List[Tuple[str, List[str], int]] = [
+        ("z.verifier arith_square.txt nought.values", [], 0),
+        ("z.verifier arith_no_outputs.txt empty.values", [], 0),
+        ("z.verifier balances.txt sum.values", [], 0),
+        ("y.verifier arith_square.txt nought.values", [], 0),
+        # Claims that nobody can prove are served too.
+        ("z.verifier arith_square.txt three.values", [], 0),
+        ("z.verifier arith_most_inputs.txt empty.values", [], 0),
+        ("z.verifier arith_more_inputs.txt empty.values", ["too large 262145 4097"], 9),
+        ("z.verifier and.txt nought.values", ["refused BadGate 4 4"], 3),
+        ("z.verifier missing.txt missing", ["failed shelf"], 4),
+        ("z.verifier arith_square.txt missing", ["failed shelf"], 4),
+        ("missing arith_square.txt none.values", ["refused BadValue 1 0"], 3),
+        ("missing arith_square.txt beyond.values", ["refused BadValue 1 1"], 3),
+        ("missing arith_square.txt empty.values", ["refused Count 2 1 0"], 3),
+        ("missing arith_square.txt two.values", ["refused Count 2 1 2"], 3),
+        ("missing arith_square.txt nought.values", ["failed shelf"], 4),
+        ("z.prover arith_square.txt nought.values", ["refused BadKind 2"], 3),
+        ("z.prover arith_more_inputs.txt empty.values", ["refused BadKind 2"], 3),
+        (f"{ALONE} arith_square.txt nought.values", ["journal failed 1"], 5),
+        (f"{ALONE} arith_more_inputs.txt empty.values", ["too large 262145 4097"], 9),
+    ]
+    faults = [(file, f"refused {name} {bristol.NUMBERS[name]} {place}") for file, _, name, place in ARITH_FAULTS]
+    runs = [Run(f"serve-arith here missing {file} missing --sessions 1", [line], 3) for file, line in faults]
+    return runs + [Run(f"serve-arith here {words} --sessions 1", lines, status) for words, lines, status in given]
+
+
+def arith_proofs() -> List[Run]:
+    """Proofs about arithmetic circuits, to nobody: the circuit's file comes first, then those of the values and of the outputs."""
+    connected = "failed door"
+    given: List[Tuple[str, List[str], int]] = [
+        ("z.prover arith_square.txt three.values nought.values", [connected], 4),
+        ("y.prover arith_square.txt three.values nought.values", [connected], 4),
+        ("z.prover balances.txt balances.values sum.values", [connected], 4),
+        ("z.prover arith_input.txt zero.values zero.values", [connected], 4),
+        ("missing arith_square.txt four.values nought.values", ["unsatisfied 1"], 1),
+        # An assertion comes before an output that differs.
+        ("missing arith_square.txt four.values four.values", ["unsatisfied 1"], 1),
+        ("missing arith_square.txt three.values four.values", ["unsatisfied 0"], 1),
+        ("missing arith_input.txt two.values two.values", ["unsatisfied 2"], 1),
+        ("missing balances.txt balances.values three.values", ["unsatisfied 0"], 1),
+        ("missing arith_no_gates.txt two.values four.values", ["unsatisfied 0"], 1),
+        ("missing arith_square.txt four.values missing", ["failed shelf"], 4),
+        ("missing arith_square.txt missing missing", ["failed shelf"], 4),
+        ("missing missing.txt none.values none.values", ["failed shelf"], 4),
+        ("missing and.txt none.values none.values", ["refused BadGate 4 4"], 3),
+        ("missing arith_square.txt none.values missing", ["refused BadValue 1 0"], 3),
+        ("missing arith_square.txt beyond.values missing", ["refused BadValue 1 1"], 3),
+        ("missing arith_square.txt empty.values none.values", ["refused Count 2 1 0"], 3),
+        ("missing arith_square.txt two.values none.values", ["refused Count 2 1 2"], 3),
+        ("missing arith_square.txt four.values none.values", ["refused BadValue 1 0"], 3),
+        ("missing arith_square.txt four.values beyond.values", ["refused BadValue 1 1"], 3),
+        ("missing arith_square.txt four.values empty.values", ["refused Count 2 1 0"], 3),
+        ("missing arith_square.txt four.values two.values", ["refused Count 2 1 2"], 3),
+        ("missing arith_square.txt three.values nought.values", ["failed shelf"], 4),
+        ("z.verifier arith_square.txt three.values nought.values", ["refused BadKind 2"], 3),
+        ("and.txt arith_square.txt three.values nought.values", ["refused BadMagic 1"], 3),
+    ]
+    faults = [(file, f"refused {name} {bristol.NUMBERS[name]} {place}") for file, _, name, place in ARITH_FAULTS]
+    runs = [Run(f"prove-arith here missing {file} missing missing", [line], 3) for file, line in faults]
+    return runs + [Run(f"prove-arith here {words}", lines, status) for words, lines, status in given]
+
+
+def arith_audits() -> List[Run]:
+    """Audits about arithmetic circuits: over files that are dealt for different sessions, and of what is no log."""
+    given: List[Tuple[str, List[str], int]] = [
+        ("arith_square.txt nought.values z.prover y.verifier and.txt", ["refused NotDealt 8 0"], 3),
+        ("arith_square.txt nought.values y.prover z.verifier and.txt", ["refused NotDealt 8 0"], 3),
+        ("arith_square.txt nought.values z.prover y.verifier missing", ["failed shelf"], 4),
+        ("arith_square.txt nought.values z.prover z.verifier and.txt", ["refused LogFault 1 0"], 3),
+        ("arith_square.txt nought.values z.verifier z.verifier and.txt", ["refused BadKind 2"], 3),
+        ("arith_square.txt nought.values z.prover z.prover and.txt", ["refused BadKind 2"], 3),
+        ("arith_square.txt nought.values missing z.verifier and.txt", ["failed shelf"], 4),
+        ("arith_square.txt nought.values z.prover missing and.txt", ["failed shelf"], 4),
+        ("arith_square.txt missing missing missing missing", ["failed shelf"], 4),
+        ("missing.txt none.values missing missing missing", ["failed shelf"], 4),
+        ("arith_square.txt none.values missing missing missing", ["refused BadValue 1 0"], 3),
+        ("arith_square.txt beyond.values missing missing missing", ["refused BadValue 1 1"], 3),
+        ("arith_square.txt empty.values missing missing missing", ["refused Count 2 1 0"], 3),
+        ("arith_square.txt two.values missing missing missing", ["refused Count 2 1 2"], 3),
+        ("and.txt nought.values missing missing missing", ["refused BadGate 4 4"], 3),
+    ]
+    return [Run(f"audit-arith {words}", lines, status) for words, lines, status in given]
+
+
+def words_of_no_parties() -> List[Run]:
+    """Words of the commands about sessions of arithmetic circuits that ask for nothing."""
+    serve, prove = "serve-arith here z.verifier arith_square.txt nought.values", "prove-arith here z.prover arith_square.txt three.values nought.values"
+    audit = "audit-arith arith_square.txt nought.values z.prover z.verifier and.txt"
+    words = ["serve-arith", serve, f"{serve} --sessions 0", f"{serve} more --sessions 1", f"{serve} --sessions 1 --public 1", f"{serve} --sessions 1 --extended"]
+    words += [f"{serve} --sessions 1 --workers 0", f"{serve} --sessions 1 --section 1048577", "serve-arith here z.verifier arith_square.txt --sessions 1"]
+    words += ["prove-arith", f"{prove} more", f"{prove} --section 1", f"{prove} --public 1", f"{prove} --follow", f"{prove} --timeout 0"]
+    words += ["prove-arith here z.prover arith_square.txt three.values", "prove-arith -here z.prover arith_square.txt three.values nought.values"]
+    words += ["audit-arith", f"{audit} more", f"{audit} --public 1", "audit-arith arith_square.txt nought.values z.prover z.verifier"]
+    words += ["serve-Arith" + serve[11:] + " --sessions 1", "proves-arith" + prove[11:]]
+    return [Run(each, [bristol.USAGE], 2) for each in words]
+
+
+def arith_parties() -> List[Run]:
+    """Both ends of sessions about arithmetic circuits, with nobody at the other one, and audits."""
+    orders = ["--section 1 --sessions 1 --logs l", "--sessions=01 --workers=2 --timeout=1"]
+    runs = [Run(f"serve-arith here z.verifier arith_square.txt nought.values {words}", [], 0) for words in orders]
+    runs.append(Run("prove-arith --timeout 0086400 here z.prover arith_square.txt three.values nought.values", ["failed door"], 4))
+    return arith_services() + arith_proofs() + arith_audits() + words_of_no_parties() + runs
+
+
 def all_runs() -> List[Run]:
     """All runs in order."""
     aes = [aes_case(*AES_B), aes_case(*AES_C_1)]
@@ -658,7 +777,7 @@ def all_runs() -> List[Run]:
         runs += [eval_run(case.file, case.bits, case.outputs, 0), rehearse_run(case)]
     runs += [eval_run(case.file, case.bits, case.outputs, 0) for case in aes]
     runs += [rehearse_run(aes[1])] + refusals() + orders() + sections() + extensions() + public_bits() + dealings()
-    return runs + services() + proofs() + audits() + migrations() + statuses() + bits_in_files() + other_forms() + too_large() + arithmetic_runs()
+    return runs + services() + proofs() + audits() + migrations() + statuses() + bits_in_files() + other_forms() + too_large() + arithmetic_runs() + arith_parties()
 
 
 def alone() -> bytes:

@@ -1,11 +1,11 @@
 #!/usr/bin/env python3
-"""Runs `serve` and `prove` of the built program against each other over connections of this machine.
+"""Runs `serve` and `prove`, and `serve-arith` and `prove-arith`, of the built program against each other over connections of this machine.
 
 `python3 vectors/two_parties.py PROGRAM [WORKERS]` does this with 1, 2, 4 and 8 workers, or with so many:
 
-  - honest sessions about every example circuit and some others, over files of both kinds, with eight
-    provers at once: all are accepted, by the lines and the statuses of both sides, logs and journals
-    are as computed apart, and an audit of each stored log finds its prover's bits;
+  - honest sessions about every example circuit and some others, of both kinds, over files of both kinds,
+    with eight provers at once: all are accepted, by the lines and the statuses of both sides, logs and
+    journals are as computed apart, and an audit of each stored log finds its prover's inputs;
   - sessions that end in other ways, by `endings.py`: of these both sides' lines and statuses are
     computed apart too;
   - sessions of which either side is killed at a moment that is drawn from a fixed seed, again and again
@@ -21,19 +21,24 @@ import tempfile
 from typing import List
 
 from endings import check_endings
-from parties import AES, AES_BITS, BLOCK_BITS, BLOCK_FIRST, GE64, SMALL, TINY, WIDE, DealtRoom, Room, Subject, are_apart, check_honest
+from common import P
+from parties import AES, AES_BITS, BLOCK_BITS, BLOCK_FIRST, GE64, SMALL, TINY, WIDE, AnySubject, DealtRoom, ElementsSubject, Room, Subject, are_apart, check_honest
 from processes import end_all
-from published import ADDER, AND_GATE, FIVE_GATES
+from published import ADDER, AND_GATE, BALANCES, ELEMENTS, FIVE_GATES, FOUR_GATES
 from session_runs import CIRCUITS
 from stopped_parties import check_stops
+from stored_runs import arith_texts
 
 HOLDERS = 8
+ARITH = arith_texts()
+
+
 def number(n: int) -> str:
     return f"{n:064b}"[::-1]
 
 
 # Sessions whose files are dealt from the seed, and whose logs are known byte by byte.
-KNOWN = [
+KNOWN: List[AnySubject] = [
     Subject("and", AND_GATE, "11"),
     Subject("and", AND_GATE, "11", SMALL, 1),
     Subject("and of many units", AND_GATE, "10", TINY, 1),
@@ -45,16 +50,26 @@ KNOWN = [
     Subject("comparison", GE64, number(5) + number(7), SMALL),
     Subject("no wires", CIRCUITS["no_wires.txt"], ""),
     Subject("no outputs", CIRCUITS["no_outputs.txt"], "1", TINY),
+    ElementsSubject("four gates", FOUR_GATES, [3]),
+    ElementsSubject("four gates", FOUR_GATES, [P - 3], TINY, 1),
+    ElementsSubject("balances", BALANCES, ELEMENTS, section=50),
+    ElementsSubject("balances", BALANCES, ELEMENTS, SMALL),
+    ElementsSubject("two products", ARITH["arith_two_products.txt"], [P - 1, 2], SMALL, 1),
+    ElementsSubject("no gates", ARITH["arith_no_gates.txt"], [0, P - 1]),
+    ElementsSubject("no wires", ARITH["arith_empty.txt"], []),
+    ElementsSubject("no outputs", ARITH["arith_no_outputs.txt"], [7, 8], TINY),
 ]
 
 # Larger ones, whose files the program deals.
-LARGE = [
+LARGE: List[AnySubject] = [
     Subject("aes", AES, AES_BITS),
     Subject("aes", AES, AES_BITS, WIDE, 1000),
     Subject("aes of a public block", BLOCK_FIRST, BLOCK_BITS, public=128),
     Subject("aes of a public block", BLOCK_FIRST, BLOCK_BITS, WIDE, 1000, public=128),
     Subject("chain", CIRCUITS["chain.txt"], "10"),
     Subject("chain", CIRCUITS["chain.txt"], "10", SMALL),
+    ElementsSubject("chain of elements", ARITH["arith_chain.txt"], [P - 1, 2]),
+    ElementsSubject("chain of elements", ARITH["arith_chain.txt"], [P - 1, 2], WIDE, 1000),
 ]
 
 
