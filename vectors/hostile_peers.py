@@ -1,10 +1,10 @@
 #!/usr/bin/env python3
 """Peers that break the protocol, and damaged files, row by row against the built program.
 
-`python3 vectors/hostile_peers.py PROGRAM` runs `serve` and `prove` with peers of a script over connections of this machine. Of each
-row the line and the status stand here; what `ends.py` computes apart must be the same, and so must the bytes that the program
-sends, its logs and what its journals say. Sessions are about one AND gate, over direct files, in one section, with units from 0,
-where a row says nothing else. The rows are:
+`python3 vectors/hostile_peers.py PROGRAM` runs `serve` and `prove` with peers of a script over connections of this machine, and
+`serve-arith` and `prove-arith`. Of each row the line and the status stand here; what `ends.py` computes apart must be the same, and so
+must the bytes that the program sends, its logs and what its journals say. Sessions are about one AND gate, over direct files, in one
+section, with units from 0, where a row says nothing else. The rows are:
 
   - provers: another kind of frame, length, version and id in the hello; Sums, and a second hello, in place of Corrections; each
     place at which an element may be p; a bit byte of 2 over extended files; a byte, and a whole session, after the Openings; an
@@ -12,7 +12,12 @@ where a row says nothing else. The rows are:
   - verifiers: a second Grant and a Refuse in place of the Challenge; a Grant of two units, of none, of sections of none and of too
     many products, at the file's total, and of a finished run again; a Refuse and a Verdict of wrong codes; a Challenge of p;
   - dealt files of either side that are cut by a byte, emptied, or have another last byte, in `prove`, `serve` and `audit`;
-  - a prover that is told the key, and claims what is not so: it is accepted, and an audit names the root; one that misses by 1;
+  - provers of an arithmetic circuit: hellos about a Boolean one of both lengths, and of other versions and lengths; each place at which
+    an element may be p; Corrections and Openings of other numbers; an end, and silence, at the hello and behind the grant; and all
+    verifiers of above, and one that rejects an assertion, at `prove-arith`;
+  - provers that know the challenge, or are told the key, and claim what is not so: they are accepted, and an audit says the line that
+    `docs/PROTOCOL.md` publishes; ones that miss by 1;
+  - the sessions there from unit 1 on, of public bits, and of an assertion that is not met;
   - calls of the outside that fail: the send of a Refuse, of the Challenge and of the Verdict.
 
 A hello about another circuit and an end after the hello are rows of `loopback.py`. What `serve` says where its journal or its
@@ -30,22 +35,26 @@ import tempfile
 import threading
 from typing import Callable, List, NamedTuple, Tuple
 
+import arithmetic
+import bristol
 import program
 from common import P, frame
 from dealt_files import journal
 from endings import AND, Other, run_prove, serve_script
 from ends import Link, hold, prove, verify
-from parties import GRANT_BYTES, HELLO_BYTES, TINY, Room, Span
+from parties import DIRECT, GRANT_BYTES, HELLO_BYTES, TINY, ElementsSubject, Room, Span, Subject
 from processes import SECONDS, Ran, Service, end_all
-from published import AND_GATE
+from published import CHEATING, FOUR_GATES, LED, Led, answer_of
 from told import Told
 
 P_BYTES = struct.pack("<Q", P)
 
-# Where the prover's last frames begin in what it sends, and where what it sends stands in the log.
+# Where the prover's last frames begin in what it sends.
 SUMS, OPENINGS = 131, 152
-SENT_IN_LOG = [(0, 102), (123, 152), (165, 199)]
 CHALLENGE_BYTES = 13
+
+# The same about the arithmetic circuit.
+ARITH_SUMS, ARITH_OPENINGS = 123, 144
 
 ACCEPTED = "units 0..1 accepted\n"
 
@@ -110,6 +119,7 @@ def direct_rows(honest: bytes) -> List[Heard]:
         Heard("a hello of length 97 + 256", hello[:2] + b"\1" + hello[3:], "no grant frame 2\n", 1),
         Heard("a hello of 97 bytes with version 2", hello[:-1] + b"\2", "no grant hello version\n", 1),
         Heard("a hello of 129 bytes with version 1", frame(1, hello[5:] + bytes(32)), "no grant hello version\n", 1),
+        Heard("a hello of an arithmetic circuit", hello[:-1] + b"\4", "no grant hello version\n", 1),
         Heard("a hello about another file", hello[:5] + bytes(32) + hello[37:], "no grant hello id\n", 1),
         Heard("Sums for Corrections", hello + sums, "units 0..1 broken frame 102\n", 1),
         Heard("a second hello", hello + hello, "units 0..1 broken frame 102\n", 1),
@@ -132,6 +142,44 @@ def extended_rows(honest: bytes) -> List[Heard]:
         Heard("a bit byte of 2", asked, "units 0..2 broken frame 107\n", 1),
         Heard("a session over extended files", honest, "units 0..2 accepted\n", 0),
     ]
+
+
+def arith_rows(honest: bytes, bits_hello: bytes) -> List[Heard]:
+    hello, rest, openings = honest[:HELLO_BYTES], honest[HELLO_BYTES:], honest[ARITH_OPENINGS:]
+    before, corrections = honest[:ARITH_OPENINGS], honest[HELLO_BYTES:ARITH_SUMS]
+    rows = [
+        Heard("a session", honest, ACCEPTED, 0),
+        Heard("a session in single bytes", honest, ACCEPTED, 0, 1),
+        Heard("a hello about a Boolean circuit", bits_hello, "no grant hello version\n", 1),
+        Heard("its long form", frame(1, bits_hello[5:-1] + b"\2" + bytes(32)), "no grant frame 1\n", 1),
+        Heard("the long form of version 4", frame(1, hello[5:] + bytes(32)), "no grant frame 1\n", 1),
+        Heard("a hello of version 3", hello[:-1] + b"\3" + rest, "no grant hello version\n", 1),
+        Heard("a hello of length 96", hello[:1] + b"\x60" + hello[2:], "no grant frame 1\n", 1),
+        Heard("no byte", b"", "no grant ended 0\n", 1),
+        Heard("an end in the second correction", honest[:118], "units 0..1 broken ended 118\n", 1),
+        Heard("a correction for the product alone", hello + frame(5, corrections[-8:]), "units 0..1 broken frame 103\n", 1),
+        Heard("a third correction", hello + frame(5, corrections[5:] + bytes(8)), "units 0..1 broken frame 103\n", 1),
+        Heard("an opening of the output alone", before + frame(8, openings[5:13]), "units 0..1 broken frame 145\n", 1),
+        Heard("a third opening", before + frame(8, openings[5:] + bytes(8)), "units 0..1 broken frame 145\n", 1),
+        Heard("an opening that is not the assertion's", honest[:-8] + bytes(8), "units 0..1 rejected opening 1\n", 1),
+    ]
+    given = [("the input's correction", 114), ("the product's", 122)]
+    for what, place in [*given, ("U", 135), ("V", 143), ("the output's opening", 156), ("the assertion's", 164)]:
+        rows.append(Heard(f"{what} of p", with_p(honest, place), f"units 0..1 broken frame {place}\n", 1))
+    return rows
+
+
+def silent_provers(room: Room, honest: bytes) -> int:
+    """Provers that send so much and then nothing, in a service that waits a second."""
+    rows = [(0, "no grant link\n"), (60, "no grant link\n"), (HELLO_BYTES, "units 0..1 broken link\n"), (ARITH_SUMS, "units 0..1 broken link\n")]
+    for count, line in rows:
+        renew(room)
+        service = room.service(1, 1, "--timeout", "1")
+        with socket.create_connection(service.address, timeout=SECONDS) as stream:
+            stream.sendall(honest[:count])
+            served = service.end()
+        assert served == (line, 4), (count, served)
+    return len(rows)
 
 
 # ---- verifiers of a script
@@ -229,40 +277,63 @@ def damaged_files(room: Room) -> int:
     return count
 
 
-# ---- a prover that is told the key
+# ---- provers that know the challenge, or are told the key
 
 
-def audited(room: Room, log: bytes) -> Ran:
-    """What an audit of this log over the room's files says, computed apart."""
-    files = {"circuit": AND_GATE, "log": log, "x.prover": room.get("x.prover"), "x.verifier": room.get("x.verifier")}
+def audited(room: Room, log: bytes) -> Tuple[Ran, Ran]:
+    """What an audit of the log of unit 0, which is this one, says over the room's files, and what is computed apart."""
+    names = ["circuit", "x.prover", "x.verifier", "log.0", *room.subject.files()]
+    files = {name: room.get(name) for name in names}
+    assert files["log.0"] == log, files["log.0"].hex()
+    words = [room.subject.command("audit"), "circuit", room.outputs, "x.prover", "x.verifier", "log.0", *room.subject.words()]
     outside = program.Outside(files, program.Disk(b"", 0))
-    came = program.run(outside, ["audit", "circuit", "1", "x.prover", "x.verifier", "log"], [])
-    return Ran(outside.written.decode(), came.status)
+    came = program.run(outside, words, [])
+    return room.run(*words), Ran(outside.written.decode(), came.status)
 
 
-def check_told(room: Room, spoilt: int, line: str, status: int) -> Ran:
-    """At the bits 10 it claims the output 1, with a product of 1 and sums that fit, of which U is so much higher; gives the audit."""
+def check_told(room: Room, told: Told, line: str, status: int, found: Ran) -> None:
+    """A service says this of such a prover, and an audit finds this in the log."""
     renew(room)
-    job = room.job._replace(claim=room.job.claim._replace(bits=[1, 0]))
-    log = Told(job, [1, 0, 1], spoilt).log()
     service = room.service(1, 1)
-    talk(service.address, b"".join(log[start:end] for start, end in SENT_IN_LOG), 4096)
+    talk(service.address, told.sent(), 4096)
     served = service.end()
-    assert served == (line, status), served
-    assert room.get("log.0") == log, room.get("log.0").hex()
-    ran = room.run("audit", "circuit", "1", "x.prover", "x.verifier", "log.0")
-    assert ran == audited(room, log), (ran, audited(room, log))
-    return ran
+    assert served == (line, status), (told, served)
+    both = audited(room, told.log())
+    assert both == (found, found), (told, both)
 
 
-def told_provers(room: Room) -> int:
-    found = check_told(room, 0, ACCEPTED, 0)
-    words = found.text.split()
-    is_key = words[:3] == ["key", "root", "poly"] and len(words) == 6
-    assert found.status == 1 and (is_key or words[:2] == ["challenge", "root"]), found
-    missed = check_told(room, 1, "units 0..1 rejected sum 0\n", 1)
-    assert missed == ("not accepted\n", 1), missed
-    return 2
+def told_provers(room: Room, arith: Room) -> int:
+    """Those that are published, and the same with a sum that is 1 too high."""
+    arith.put("outputs", b"1\n")
+    for name, told in CHEATING:
+        place = room if name.startswith("AND") else arith
+        check_told(place, told, ACCEPTED, 0, Ran(f"{answer_of(told, told.log())}\n", 1))
+        check_told(place, told._replace(spoilt=1), "units 0..1 rejected sum 0\n", 1, Ran("not accepted\n", 1))
+    return 2 * len(CHEATING)
+
+
+# ---- sessions that are published
+
+
+def check_led(path: str, folder: pathlib.Path, led: Led) -> None:
+    """A service has the log of such a session, behind another one where its grant does not start at unit 0."""
+    given, count = led.given, 1 + led.start
+    if isinstance(given.claim().circuit, arithmetic.Circuit):
+        room = Room(path, folder, ElementsSubject(given.name, given.text, [3]), count, 0)
+        room.put("outputs", f"{given.claim().outputs()[0]}\n".encode())
+    else:
+        params = given.params
+        kind = DIRECT if params is None else DIRECT._replace(kind=1, height=params.height, trees=params.trees, base=params.base)
+        bits = bristol.word_of(given.inputs)
+        room = Room(path, folder, Subject(given.name, given.text, bits, kind, given.section, given.public), count, 0)
+    service = room.service(count, 1)
+    for start in range(count):
+        talk(service.address, hold(given.job(total=count), start)[0], 4096)
+    said = "rejected opening 1" if led.outcome.startswith("rejected-opening output=1 ") else led.outcome
+    lines = "".join(f"units {start}..{start + 1} {said}\n" for start in range(count))
+    served = service.end()
+    assert served == (lines, 0 if led.outcome == "accepted" else 1), (given.name, served)
+    assert room.get(f"log.{led.start}") == led.log(), given.name
 
 
 # ---- calls of the outside that fail
@@ -319,19 +390,24 @@ def check_rows(path: str, folder: pathlib.Path) -> int:
     """All rows; gives how many there are."""
     room = Room(path, folder / "direct", AND, 1, 1)
     wide = Room(path, folder / "extended", AND._replace(kind=TINY), 2, 1)
-    by_prover, by_verifier = hold(room.job)
-    heard, asked = direct_rows(by_prover), extended_rows(hold(wide.job)[0])
-    for row in heard:
-        check_heard(room, row)
-    for row in asked:
-        check_heard(wide, row)
-    shown = verifier_rows(room, by_verifier)
-    for each in shown:
-        renew(room)
-        check_shown(room, each)
-    check_again(room, by_verifier)
-    count = len(heard) + len(asked) + len(shown) + 1
-    return count + damaged_files(room) + told_provers(room) + failing_calls(room)
+    arith = Room(path, folder / "arithmetic", ElementsSubject("four gates", FOUR_GATES, [3]), 1, 1)
+    (by_prover, by_verifier), (from_prover, from_verifier) = hold(room.job), hold(arith.job)
+    heard = [(room, row) for row in direct_rows(by_prover)] + [(wide, row) for row in extended_rows(hold(wide.job)[0])]
+    heard += [(arith, row) for row in arith_rows(from_prover, by_prover[:HELLO_BYTES])]
+    for place, row in heard:
+        check_heard(place, row)
+    rejects = from_verifier[:-10] + frame(9, struct.pack("<BI", 2, 1))
+    shown = [(room, row) for row in verifier_rows(room, by_verifier)] + [(arith, row) for row in verifier_rows(arith, from_verifier)]
+    shown.append((arith, Shown("a Verdict against the assertion", rejects, "units 0..1 rejected opening 1\n", 1, [(0, 1)])))
+    for place, each in shown:
+        renew(place)
+        check_shown(place, each)
+    for place, sent in ((room, by_verifier), (arith, from_verifier)):
+        check_again(place, sent)
+    for led in LED:
+        check_led(path, folder / led.given.name, led)
+    count = len(heard) + len(shown) + 2 + len(LED) + silent_provers(arith, from_prover)
+    return count + damaged_files(room) + told_provers(room, arith) + failing_calls(room)
 
 
 def main() -> int:

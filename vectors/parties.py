@@ -211,9 +211,9 @@ class Room:
     def run(self, *words: str) -> Ran:
         return self.run_by(self.program, *words)
 
-    def service(self, sessions: int, workers: int) -> Service:
+    def service(self, sessions: int, workers: int, *more: str) -> Service:
         words = ["x.verifier", "circuit", self.outputs, "--sessions", str(sessions)]
-        words += ["--workers", str(workers), "--section", str(self.subject.section), "--logs", "log", *self.subject.words()]
+        words += ["--workers", str(workers), "--section", str(self.subject.section), "--logs", "log", *self.subject.words(), *more]
         return Service(self.program, self.folder, words, self.subject.command("serve"))
 
     def proving(self, place: str, holder: str) -> Process:

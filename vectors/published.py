@@ -1,19 +1,23 @@
 #!/usr/bin/env python3
 """The sessions that `docs/PROTOCOL.md` publishes, computed apart from the program that is tested against them.
 
-Each is over the files that a seed of 32 bytes 7 gives, with just the units that it takes, and has the digest of the circuit's own
-file in its hello. `published.py` prints of each how many bytes its log has, and in hex SHA-256 of the log. It compares these with
-the table in that document, and ends with 1 where any differs. `session.py` computes the sessions; `session_runs.py` has what both
-ends of the program must write of them.
+Each is over the files that a seed of 32 bytes 7 gives, and has the digest of the circuit's own file in its hello. `published.py`
+prints of each how many bytes its log has, and in hex SHA-256 of the log. It compares these with the tables in that document, and so
+the lines of audits there, and those of texts with faults in `docs/FORMATS.md`. It ends with 1 where any differs. `session.py` computes
+the first sessions, which are over files with just the units that they take; `session_runs.py` has what both ends of the program must
+write of them. Those behind them are computed end by end, by `ends.py` and `told.py`.
 """
 import pathlib
 import sys
-from typing import List, NamedTuple, Optional
+from typing import List, NamedTuple, Optional, Tuple
 
 import arithmetic
 import bristol
-from common import sha256
+from auditor import audit
+from common import P, sha256
+from ends import Job, Link, hold, verify
 from session import LONG, AnyClaim, Claim, ElementsClaim, Extended, accepted
+from told import CHALLENGE_COIN, Told
 
 TOP = pathlib.Path(__file__).resolve().parent.parent
 
@@ -33,6 +37,7 @@ class Published(NamedTuple):
     inputs: List[int]
     params: Optional[Extended]
     section: int
+    public: int = 0
 
     def claim(self) -> AnyClaim:
         """The claim that it is about."""
@@ -41,7 +46,12 @@ class Published(NamedTuple):
             return ElementsClaim(circuit, sha256(self.text), self.inputs)
         bits_circuit = bristol.read(self.text)
         assert isinstance(bits_circuit, bristol.Circuit)
-        return Claim(bits_circuit, sha256(self.text), self.inputs)
+        return Claim(bits_circuit, sha256(self.text), self.inputs, self.public)
+
+    def job(self, outputs: Optional[List[int]] = None, total: int = 1) -> Job:
+        """The same about these outputs, or those that the circuit gives, over files of so many units."""
+        claim = self.claim()
+        return Job(claim, tuple(claim.outputs() if outputs is None else outputs), self.params, total, self.section)
 
 
 ADDER = (TOP / "examples" / "adder64.txt").read_bytes()
@@ -71,19 +81,90 @@ ARITH_SESSIONS = [
 ]
 
 
+class Led(NamedTuple):
+    """A session whose grant starts at this unit, over files with just the units up to its last one, and how it must end."""
+
+    given: Published
+    start: int = 0
+    outcome: str = "accepted"
+
+    def log(self) -> bytes:
+        total = self.start + self.given.job().units(self.given.section)
+        job = self.given.job(total=total)
+        outcome, end = verify(job, Link(hold(job, self.start)[0]), self.start)
+        assert outcome.startswith(self.outcome), outcome
+        return b"".join(data for _, data in end.log)
+
+
+# Sessions from unit 1 on, one with two public bits, and one whose assertion is not met: number 1, behind the one output.
+LED = [
+    Led(Published("AND_DIRECT_FROM_1", AND_GATE, [1, 1], None, LONG), 1),
+    Led(Published("AND_EXTENDED_FROM_1", AND_GATE, [1, 1], Extended(height=2, trees=2, base=10), LONG), 1),
+    Led(Published("GATES_PUBLIC", FIVE_GATES, [1, 1, 0, 1], None, 3, 2)),
+    Led(Published("FOUR_GATES_UNMET", FOUR_GATES, [4], None, LONG), 0, "rejected-opening output=1 "),
+]
+
+# Provers that know the coins, or the key, with the values that they fix: of both products of a private input by itself, and of the gate;
+# of a gate that is wrong; and of an output that is not as claimed.
+CHEATING = [
+    ("AND_CHALLENGE_ROOT", Told(SESSIONS[0].job([1]), [-CHALLENGE_COIN * CHALLENGE_COIN % P, 1, 1])),
+    ("AND_KEY_ROOT", Told(SESSIONS[0].job([1]), [1, 0, 1])),
+    ("FOUR_GATES_KEY_ROOT", Told(ARITH_SESSIONS[0].job([1]), [3, 9])),
+]
+
+# Texts that are no arithmetic circuits, which `docs/FORMATS.md` has with their faults.
+FAULTY = [
+    "1 3 2 1 MUL 9 x 2",
+    "1 3 4 9 MUL 0 1 2",
+    "1 3 2 4 MUL 0 1 2",
+    "1 3 2 1 7 0 1 2",
+    "1 2 1 1 CONST 2305843009213693951 9",
+    "1 2 1 1 ASSERT 1",
+    "1 3 1 1 ADD 0 0 1",
+]
+
+
 def log_of(given: Published) -> bytes:
     return b"".join(accepted(given.claim(), given.params, given.section))
 
 
-def main() -> int:
-    document = (TOP / "docs" / "PROTOCOL.md").read_text()
-    wrong = 0
-    for given in SESSIONS + ARITH_SESSIONS:
-        log = log_of(given)
+def answer_of(told: Told, log: bytes) -> str:
+    """The line of an audit of this log, which finds a root."""
+    name, *fields = audit(told.job, log).split(":")
+    section = [] if name == "key-root" else ["section", fields.pop(0)]
+    return " ".join([name.replace("-", " "), *section, "poly", *fields])
+
+
+def fault_of(text: str) -> str:
+    """The line of a text's first fault."""
+    fault = arithmetic.read(text.encode())
+    assert isinstance(fault, bristol.Fault)
+    return f"refused {fault.name} {fault.number} {fault.place}"
+
+
+def rows() -> List[Tuple[str, str, str, str]]:
+    """Of each value its name, how it is printed, the document that has it, and what stands there."""
+    logs = [(given.name, log_of(given)) for given in SESSIONS + ARITH_SESSIONS] + [(led.given.name, led.log()) for led in LED]
+    cheats = [(name, told, told.log()) for name, told in CHEATING]
+    found = []
+    for name, log in logs + [(name, log) for name, _, log in cheats]:
         digest = sha256(log).hex()
-        print(f"{given.name}: {len(log)} bytes {digest}")
-        if f"| {len(log):,} | `{digest}` |" not in document:
-            print(f"docs/PROTOCOL.md has another row of {given.name}")
+        found.append((name, f"{len(log)} bytes {digest}", "PROTOCOL.md", f"| {len(log):,} | `{digest}` |"))
+    for name, told, log in cheats:
+        answer = answer_of(told, log)
+        found.append((name, answer, "PROTOCOL.md", f"    {answer}\n"))
+    for text in FAULTY:
+        fault = fault_of(text)
+        found.append((text, fault, "FORMATS.md", f"| `{text}` | `{fault}` |"))
+    return found
+
+
+def main() -> int:
+    wrong = 0
+    for name, said, document, row in rows():
+        print(f"{name}: {said}")
+        if row not in (TOP / "docs" / document).read_text():
+            print(f"docs/{document} has another row of {name}")
             wrong += 1
     return 1 if wrong else 0
 
