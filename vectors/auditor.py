@@ -9,7 +9,7 @@ import struct
 from typing import List, Tuple
 
 from chacha import word
-from common import FILE_ID, KEY, P, VERIFIER_COINS, dealt_correlations, from_word, sha256
+from common import FILE_ID, KEY, P, VERIFIER_COINS, dealt_correlations, dealt_transfers, from_word, sha256
 from ends import (
     CHALLENGE,
     GRANT,
@@ -22,13 +22,12 @@ from ends import (
     first_bad,
     judge,
     keys_of,
-    pairs_of,
     read_elements,
     reply_of,
     reply_place,
     still_wanted,
 )
-from session import LONG
+from session import LONG, Extended, coded
 
 
 class Answered(Exception):
@@ -75,6 +74,21 @@ def is_hello_for(job: Job, data: bytes) -> bool:
 
 def is_grant(job: Job, start: int, count: int, section: int) -> bool:
     return 1 <= section <= LONG and count == job.units(section) <= MOST_UNITS and start + count <= job.total
+
+
+def values_after(params: Extended, unit: int, ask: bytes) -> List[int]:
+    """The prover's values of a unit, as its file and the ask fix them: on each level the path to the hidden place takes the side that was
+    not chosen, and the choice is what was asked less the bit that was dealt."""
+    dealt = [c.x for c in dealt_correlations(unit, params.base + params.trees)]
+    bits = [bit for _, bit in dealt_transfers(unit, params.trees * params.height)]
+    noise, size = [], params.height + 8
+    for i in range(params.trees):
+        part, place = ask[5 + i * size : 5 + (i + 1) * size], 0
+        for asked, bit in zip(part, bits[i * params.height :][: params.height]):
+            place = 2 * place + (1 - (asked ^ bit))
+        [difference] = struct.unpack("<Q", part[params.height :])
+        noise += [(dealt[params.base + i] + difference) % P if j == place else 0 for j in range(2**params.height)]
+    return coded(params, dealt[: params.base], noise)
 
 
 def combined(errors: List[int], challenge: int) -> int:
@@ -129,7 +143,8 @@ def audited(job: Job, reader: Reader) -> None:
             replies.append(reader.take(reply_place(params)))
             reader.given(replies[-1] == reply_of(params, unit, ask))
         keys = [key for unit in units for key in keys_of(params, unit)]
-        pairs = [pair for unit, reply in zip(units, replies) for pair in pairs_of(params, unit, reply)]
+        seen = [value for unit, ask in zip(units, asks) for value in values_after(params, unit, ask)]
+        pairs = [(value, (key - value * KEY) % P) for value, key in zip(seen, keys)]
     corrections = read_elements(reader.take(element_place(5, job.claim.givens())))
     challenge = read_elements(reader.take(CHALLENGE))[0]
     reader.given(challenge == from_word(word(VERIFIER_COINS, 4 * start + 1, 0)))
