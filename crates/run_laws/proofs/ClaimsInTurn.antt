@@ -1,10 +1,10 @@
 -- Runs over one file's journal of claims, one after the other.
-use Rattle.std.proofs.Common.{◌≡◌, ◌⊎◌, ◌<◌, ◌≤◌, ◌+◌, ◌++◌, ◌∷◌, [], ℕ, max, List, length, get_or, Option, None, Some, Result, Ok, Err, IsSomeAnd, true, false, Bool, ◌||◌, refl, ap, sym, ◌∙◌, subst, inl, inr, arith}
+use Rattle.std.proofs.Common.{◌≡◌, ◌⊎◌, ◌<◌, ◌++◌, ◌∷◌, [], ℕ, max, List, length, get_or, Option, None, Some, Result, Ok, Err, IsSomeAnd, true, false, Bool, ◌||◌, refl, ap, sym, ◌∙◌, subst, inl, inr, arith}
 use Rattle.std.proofs.lemmas.Bool.{cases_lt}
 use Rattle.std.proofs.Math.Seq.{get_or-append_seam}
 use Rattle.std.proofs.Math.ListN.{get_or-append}
 use Rattle.std.proofs.lemmas.List.{length-append}
-use Rattle.claim_store.specs.ClaimedRanges.{AreMerged, has_unit, is_claimed}
+use Rattle.claim_store.specs.ClaimedRanges.{has_unit, is_claimed}
 use Rattle.zk_model.specs.declared.Span.{Span}
 use Rattle.lease_core.specs.Spans.{IsApart, meets_any}
 use Rattle.lease_journal.specs.Twins.{twin_slots_at}

@@ -1,5 +1,6 @@
 pub mod AcceptedLogs
 pub mod ClaimsInTurn
+pub mod CommandRows
 pub mod Eras
 pub mod MachineRuns
 pub mod MigrationsInTurn

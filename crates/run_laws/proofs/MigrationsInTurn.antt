@@ -1,28 +1,27 @@
 -- A migration, and the runs before and after it.
-use Rattle.std.proofs.Common.{◌≡◌, ◌⊎◌, ◌<◌, ◌≤◌, ℕ, List, length, get_or, map, Some, Option, IfSome, true, refl, sym, ap, ◌∙◌, subst, inl, inr, arith, All}
+use Rattle.std.proofs.Common.{◌≡◌, ◌⊎◌, ◌<◌, ◌≤◌, ℕ, List, get_or, Some, Option, IfSome, true, refl, sym, ◌∙◌, subst, inl, inr, arith, All}
 use Rattle.std.proofs.lemmas.Bool.Decides.{nat_tests}
 use Rattle.std.proofs.lemmas.List.{length-map, get_or-map}
 use Rattle.claim_store.specs.ClaimedRanges.{AreMerged, RiseFrom, claim_of, claims_of}
 use Rattle.lease_journal.specs.Journals.{AreSound, body_before, keeps_rule}
-use Rattle.journal_migration.specs.Migrations.{SaysEither, SaysMoved, SaysOneArea, moved_slots, one_area_end}
+use Rattle.journal_migration.specs.Migrations.{SaysMoved, SaysOneArea, one_area_end}
 use Rattle.lease_journal.specs.Twins.{twin_ceiling_slots}
 use Rattle.zk_model.specs.declared.JournalKind.TheVariants as kind
 use Rattle.zk_model.specs.declared.Span.{Span}
 use Rattle.zk_port.specs.Disks.{Choice, DiskState}
 use Rattle.lease_store.specs.Ceilings.{SaysCeiling, last_ceiling}
 use Rattle.lease_store.proofs.Starting.{says_ceiling}
-use Rattle.claim_store.specs.Claims.{AreClaims}
 use Rattle.claim_store.proofs.Joining.{merged_self}
 use Rattle.claim_store.proofs.Units.{rising_apart}
-use Rattle.journal_migration.specs.Migrating.{MovesOn, MovesSafely}
+use Rattle.journal_migration.specs.Migrating.{MovesSafely}
 use Rattle.journal_migration.specs.declared.Moved.{Moved}
 use Rattle.journal_migration.specs.declared.Moved.TheVariants.{Done, Already}
-use Rattle.file_commands.specs.ClaimedUnits.{FindsClaims, JournalPlace}
+use Rattle.file_commands.specs.ClaimedUnits.{FindsClaims}
 use Rattle.file_commands.specs.Journals.{DiskChange, disk_change}
-use Rattle.file_commands.specs.MigrateRuns.{MigratesJournal, MovesJournal, once_chosen}
+use Rattle.file_commands.specs.MigrateRuns.{MigratesJournal, once_chosen}
 use Rattle.file_commands.specs.declared.migrate_command.DealtUnits.{DealtUnits}
 use Rattle.run_laws.specs.RunsInTurn.{MayBeFound}
-use Rattle.run_laws.specs.MigrationsInTurn.{MaySayCeiling, MaySayClaims, MigrationsKeep, SaysOldCeiling, SaysOldClaims, SaysSameCeiling, SaysSameClaims}
+use Rattle.run_laws.specs.MigrationsInTurn.{MaySayCeiling, MaySayClaims, MigrationsKeep, SaysSameCeiling, SaysSameClaims}
 
 -- ---- a journal that was migrated
 

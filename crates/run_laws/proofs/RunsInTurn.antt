@@ -1,5 +1,5 @@
 -- Runs over one file's journal, one after the other.
-use Rattle.std.proofs.Common.{◌≡◌, ◌≤◌, ℕ, List, Option, None, Some, IsSomeAnd, inl, inr, sym, subst, arith}
+use Rattle.std.proofs.Common.{◌≡◌, ◌≤◌, ℕ, List, Option, None, Some, IsSomeAnd, inl, inr, subst, arith}
 use Rattle.zk_model.specs.declared.Span.{Span}
 use Rattle.zk_port.specs.Disks.{DiskState}
 use Rattle.zk_port.specs.Files.{Files}
@@ -8,7 +8,6 @@ use Rattle.lease_store.proofs.Finding.{one_ceiling, says_found}
 use Rattle.session_pool.specs.Notes.{AreGrantsApart, IsBetween}
 use Rattle.session_verifier.specs.declared.note.SessionNote.{SessionNote}
 use Rattle.claim_files.specs.Services.{Service}
-use Rattle.zk_cli.specs.ServeRuns.{units_of_note}
 use Rattle.run_laws.specs.RunsInTurn.{Granted, IsOver, KeepsUp, MayBeFound, RunsGrantOnce}
 
 keeps_up : (id : List ℕ) (total base ceiling : ℕ) (first image : List ℕ) → SaysCeiling id total base first → base ≤ ceiling

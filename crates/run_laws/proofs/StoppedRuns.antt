@@ -1,5 +1,5 @@
 -- Runs that were stopped.
-use Rattle.std.proofs.Common.{◌≡◌, ◌≤◌, ◌<◌, ℕ, zero, suc, List, [], ◌∷◌, length, get_or, Option, None, Some, refl, sym, ap, ◌∙◌, subst, arith, All}
+use Rattle.std.proofs.Common.{◌≡◌, ◌≤◌, ◌<◌, ℕ, zero, suc, List, [], ◌∷◌, length, get_or, Option, None, Some, refl, ap, ◌∙◌, subst, arith, All}
 use Rattle.std.specs.List.{Contains}
 use Rattle.lease_journal.specs.Twins.{SaysTwin, twin_ceiling_slots}
 use Rattle.zk_model.specs.declared.Span.{Span}
@@ -9,7 +9,7 @@ use Rattle.twin_journal.specs.States.{TwinState}
 use Rattle.twin_journal.proofs.TwinLaws.{recovers_one, says_recovers}
 use Rattle.lease_store.specs.Ceilings.{FindsCeiling, HasCeilings, SaysCeiling, last_ceiling}
 use Rattle.lease_store.specs.Stops.{Deed, asks, shows, grants, MayDo}
-use Rattle.lease_store.specs.Storing.{LeavesCeiling, Stores}
+use Rattle.lease_store.specs.Storing.{Stores}
 use Rattle.lease_store.proofs.Keeping.{keeps, moments}
 use Rattle.lease_store.proofs.Places.{begins_once}
 use Rattle.run_laws.specs.MachineRuns.{AreInTurn, MayLeave, RunLeaves, granted_ends}

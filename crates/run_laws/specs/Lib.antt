@@ -1,4 +1,5 @@
 pub mod AcceptedLogs
+pub mod CommandTable
 pub mod MachineRuns
 pub mod MigrationsInTurn
 pub mod RunsInTurn
