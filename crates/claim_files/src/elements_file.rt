@@ -34,7 +34,8 @@ pub fn load_elements<F: Shelf>(
     ensures elements { IfOk result (λ elements.
         IsElementsFile (F.state shelf.old).told name.now elements.items) }
     ensures count { IfOk result (λ elements. length elements.items ≡ need) }
-    ensures stop { IfErr result (ElementsStop name.now need (change (F.state shelf.old) (F.state shelf.new))) }
+    ensures stop { IfErr result (ElementsStop name.now need
+        (change (F.state shelf.old) (F.state shelf.new))) }
     ensures kept { OnlyLoads (IsName name.now) (change (F.state shelf.old) (F.state shelf.new)) }
     ensures quiet { OnOk result (F.state shelf.new ≡ F.state shelf.old) }
 {
