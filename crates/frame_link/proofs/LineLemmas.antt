@@ -69,6 +69,7 @@ abbrev pub longest : Expect → ℕ
 longest expect.Hello = LONG_HELLO_LENGTH
 longest expect.Grant = 21
 longest expect.Verdict = 10
+longest expect.Block = 29
 longest place = frame_length place []
 
 -- no frame is longer than the longest
@@ -84,6 +85,12 @@ frame_most expect.Grant [] = omega arith
 frame_most expect.Grant (first ∷ bytes) = either (nat_eq first 10)
   where
     either : (b : Bool) → (if b then 6 else 21) ≤ 21
+    either true = omega arith
+    either false = omega arith
+frame_most expect.Block [] = omega arith
+frame_most expect.Block (first ∷ bytes) = either (nat_eq first 13)
+  where
+    either : (b : Bool) → (if b then 25 else 29) ≤ 29
     either true = omega arith
     either false = omega arith
 frame_most place bytes = omega arith

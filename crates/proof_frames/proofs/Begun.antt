@@ -1,10 +1,10 @@
 -- Bytes that begin a frame: one byte more, the front, whole words, what can go on, and the first bad byte.
-use Rattle.std.proofs.Common.{◌≡◌, ℕ, zero, suc, ◌+◌, ◌-◌, ◌<◌, ◌≤◌, ◌⊎◌, inl, inr, List, [], ◌∷◌, ◌++◌, map, length, take, drop, get_or, refl, sym, ◌∙◌, ap, arith, length-append, length-drop, append_assoc, append-nil, subst, take-append-drop}
+use Rattle.std.proofs.Common.{◌≡◌, ℕ, zero, suc, ◌+◌, ◌-◌, ◌<◌, ◌≤◌, ◌⊎◌, inl, inr, List, [], ◌∷◌, ◌++◌, map, length, take, drop, get_or, refl, sym, ◌∙◌, ap, arith, length-append, subst, take-append-drop}
 use Rattle.std.specs.Prelude.{All}
-use Rattle.std.specs.Int.{w64, from_le_bytes}
+use Rattle.std.specs.Int.{w32, w64, from_le_bytes}
 use Rattle.std.proofs.lemmas.Bool.{cases_lt}
 use Rattle.std.proofs.lemmas.List.{take_all, take_at, take_more, take-append-le, get_or_push, get_or_append_left}
-use Rattle.std.proofs.lemmas.List.Elements.{All-from_get_or, All-drop, All-get_or}
+use Rattle.std.proofs.lemmas.List.Elements.{All-get_or}
 use Rattle.zk_model.specs.Field.{prime}
 use Rattle.zk_model.specs.Frames.{CanGoOn, IsFirstBad, frame_length, frame_spelling}
 use Rattle.zk_model.specs.declared.Expect.{Expect}
@@ -12,11 +12,12 @@ use Rattle.proof_frames.specs.declared.row.Slot.{Slot}
 use Rattle.proof_frames.specs.declared.row.Slot.TheVariants as slot
 use Rattle.proof_frames.specs.declared.row.Row.{Row}
 use Rattle.proof_frames.specs.Laws.{GoesOnOrIsBad, NeverBoth, WholeWantsNothing, NothingWantedIsWhole}
-use Rattle.proof_frames.specs.Rows.{FitsFields, BeginsFrame, Come, MayFollow, May, row_of, told_at, told, header, payload_length, payload_fields, row_fields, frame_slots, free, exactly}
-use Rattle.proof_frames.proofs.EveryRow.{told_early, told_stays, early_slot, header_tells, sound_at, IsSoundSlot}
+use Rattle.proof_frames.specs.Rows.{FitsFields, BeginsFrame, Come, MayFollow, May, last_bytes, next_with, number_size, row_of, told_at, told, header, payload_length, payload_fields, row_fields, frame_slots, free, exactly}
+use Rattle.proof_frames.proofs.Completed.{completes}
+use Rattle.proof_frames.proofs.EveryRow.{told_early, told_stays, early_slot, header_tells, sound_row}
 use Rattle.proof_frames.proofs.Fields.{slots, come_fits, fits_come, fits_append, fits_split, exact_fits, fits_exact, payload_sized}
 use Rattle.proof_frames.proofs.Lengths.{told_within, length_told, front_fits, word_length, whole_length}
-use Rattle.proof_frames.proofs.Octets.{IsByte, ends_in_zero}
+use Rattle.proof_frames.proofs.Octets.{IsByte}
 use Rattle.proof_frames.proofs.Words.{IsWord, IsWordAt, allowed_word, word_whole}
 
 -- ---- bytes that may come
@@ -74,15 +75,6 @@ begins_front place bytes more begun = record {
 pub begins_fewer : (place : Expect) (bytes : List ℕ) (n : ℕ) → BeginsFrame place bytes → BeginsFrame place (take n bytes)
 begins_fewer place bytes n begun = begins_front place (take n bytes) (drop n bytes) (subst (BeginsFrame place) (sym (take-append-drop n bytes)) begun)
 
--- all of them are bytes
-come_bytes : (place : Expect) (byte : ℕ) (bytes : List ℕ) → Come (frame_slots place byte) bytes → All IsByte bytes
-come_bytes place byte bytes come = All-from_get_or IsByte bytes 0 (λ n less.
-    small (get_or (frame_slots place byte) n free) (take n bytes) (get_or bytes n 0) (sound_at place byte n) (come n less))
-  where
-    small : (s : Slot) (before : List ℕ) (byte : ℕ) → IsSoundSlot s → May s before byte → byte < 256
-    small (slot.Range least most) before byte sound may = let high = may.1 in omega arith
-    small slot.Last before byte sound may = may.0
-
 -- ---- whole words
 
 pub word_begins : (place : Expect) (word : List ℕ) → IsWordAt place word → BeginsFrame place word
@@ -94,12 +86,11 @@ word_begins place word is =
           (subst (FitsFields (row_fields row)) (sym is.spelled) (fits_append (map exactly (header row)) (payload_fields row.payload) (header row) is.payload (exact_fits (header row)) is.fits));
     }
 
--- bytes that come and are as many as a row has
-come_word : (place : Expect) (byte : ℕ) (word : List ℕ) → Come (frame_slots place byte) word → length word ≡ 5 + payload_length (row_of place byte).payload → IsWordAt place word
-come_word place byte word come whole =
+-- bytes that the fields of a row allow
+fits_word : (place : Expect) (byte : ℕ) (word : List ℕ) → FitsFields (row_fields (row_of place byte)) word → IsWordAt place word
+fits_word place byte word fits =
     let row = row_of place byte in
-    let all : length word ≡ length (slots (row_fields row)) = omega (arith, whole, payload_sized row.payload) in
-    let apart = fits_split (map exactly (header row)) (payload_fields row.payload) word (come_fits (row_fields row) [] word come all) in
+    let apart = fits_split (map exactly (header row)) (payload_fields row.payload) word fits in
     let spelled : word ≡ header row ++ apart.1 = apart.2 ∙ ap (λ l. l ++ apart.1) (fits_exact (header row) apart.0 apart.3) in
     let same : row_of place (told place word) ≡ row =
     ap (row_of place) (ap (told place) spelled ∙ told_stays place (header row) apart.1 (omega (arith, told_early place))) ∙ header_tells place byte in
@@ -107,38 +98,19 @@ come_word place byte word come whole =
 
 pub begins_word : (place : Expect) (word : List ℕ) → BeginsFrame place word → length word ≡ frame_length place word → IsWordAt place word
 begins_word place word begun whole =
-    come_word place (told place word) word begun.each (whole ∙ length_told place word (omega (arith, told_within place word)))
+    let row = row_of place (told place word) in
+    let told_length = length_told place word (omega (arith, whole, told_within place word)) in
+    fits_word place (told place word) word
+    (come_fits (row_fields row) [] word begun.each (omega (arith, whole, told_length, payload_sized row.payload)))
 
 -- ---- what can go on
 
--- some byte that may come
-least_of : Slot → ℕ
-least_of (slot.Range least most) = least
-least_of slot.Last = 0
-
-may_least : (s : Slot) (bytes : List ℕ) → IsSoundSlot s → All IsByte bytes → May s bytes (least_of s)
-unfolding least_of
-may_least (slot.Range least most) bytes sound all = (omega arith, sound.0)
-may_least slot.Last bytes sound all =
-    (omega arith, λ seven. ends_in_zero (drop (length bytes - 7) bytes) (omega (arith, length-drop (length bytes - 7) bytes)) (All-drop IsByte (length bytes - 7) bytes all))
-
--- so many more may come
-goes_on : (place : Expect) (byte many : ℕ) (bytes : List ℕ) → Come (frame_slots place byte) bytes → (rest : List ℕ) × Come (frame_slots place byte) (bytes ++ rest) × (length rest ≡ many)
-goes_on place byte zero bytes come = ([], subst (Come (frame_slots place byte)) (sym (append-nil bytes)) come, refl)
-goes_on place byte (suc many) bytes come =
-    let s = get_or (frame_slots place byte) (length bytes) free in
-    let next = least_of s in
-    let more = goes_on place byte many (bytes ++ next ∷ [])
-    (come_more (frame_slots place byte) bytes next come (may_least s bytes (sound_at place byte (length bytes)) (come_bytes place byte bytes come))) in
-    (next ∷ more.0, subst (Come (frame_slots place byte)) (append_assoc bytes (next ∷ []) more.0) more.1, ap suc more.2)
-
 pub begins_can : (place : Expect) (bytes : List ℕ) → BeginsFrame place bytes → CanGoOn place bytes
 begins_can place bytes begun =
-    let all = 5 + payload_length (row_of place (told place bytes)).payload in
-    let few : length bytes ≤ all = by_length (cases_lt (told_at place) (length bytes)) in
-    let on = goes_on place (told place bytes) (all - length bytes) bytes begun.each in
-    let word : List ℕ = bytes ++ on.0 in
-    let whole = word_whole place word (come_word place (told place bytes) word on.1 (omega (arith, few, on.2, length-append bytes on.0))) in
+    let row = row_of place (told place bytes) in
+    let few : length bytes ≤ 5 + payload_length row.payload = by_length (cases_lt (told_at place) (length bytes)) in
+    let on = completes (row_fields row) [] bytes (sound_row place (told place bytes)) begun.each (omega (arith, few, payload_sized row.payload)) in
+    let whole = word_whole place (bytes ++ on.0) (fits_word place (told place bytes) (bytes ++ on.0) on.1) in
     record { frame = whole.0; allowed = whole.1.allowed; begun = (on.0, sym whole.1.spelled) }
   where
     by_length : (told_at place < length bytes) ⊎ (length bytes ≤ told_at place) → length bytes ≤ 5 + payload_length (row_of place (told place bytes)).payload
@@ -174,6 +146,14 @@ may_or_not slot.Last before byte small = by_order (cases_lt (length before) 7) (
     by_order (inl few) order = inl (small, λ seven. absurd (omega arith))
     by_order (inr seven) (inl below) = inl (small, λ seven. below)
     by_order (inr seven) (inr above) = inr (λ may. let below = may.1 seven in omega arith)
+may_or_not (slot.Number least most at) before byte small = by_order (cases_lt most reached)
+  where
+    reached : ℕ
+    reached = next_with least (number_size at) (from_le_bytes w32 (last_bytes at before ++ byte ∷ []))
+
+    by_order : (most < reached) ⊎ (reached ≤ most) → May (slot.Number least most at) before byte ⊎ (¬ May (slot.Number least most at) before byte)
+    by_order (inl above) = inr (λ may. let within = may.1 in omega arith)
+    by_order (inr within) = inl (small, within)
 
 -- up to any of the bytes they begin a frame, or one is bad
 run : (place : Expect) (bytes : List ℕ) → All IsByte bytes → length bytes ≤ frame_length place bytes → (n : ℕ) → n ≤ length bytes

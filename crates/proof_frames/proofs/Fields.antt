@@ -1,6 +1,7 @@
 -- The bytes that fields allow: field by field, and byte by byte.
 use Rattle.std.proofs.Common.{◌≡◌, ℕ, zero, suc, ◌+◌, ◌-◌, ◌*◌, ◌/◌, ◌%◌, ◌<◌, ◌≤◌, ◌⊎◌, inl, inr, List, [], ◌∷◌, ◌++◌, map, flat_map, length, take, drop, get_or, replicate, refl, sym, ◌∙◌, ap, arith, length-append, append_assoc, append-nil, subst, take-append-drop, length-drop}
-use Rattle.std.specs.Int.{w64, from_le_bytes}
+use Rattle.std.specs.Prelude.{All}
+use Rattle.std.specs.Int.{w32, w64, from_le_bytes, to_le_bytes}
 use Rattle.std.proofs.Math.Nat.{mul-le-mul_right}
 use Rattle.std.proofs.Math.Seq.{take-append-add}
 use Rattle.std.proofs.lemmas.Nat.{mod-mul-add}
@@ -17,8 +18,9 @@ use Rattle.proof_frames.specs.declared.row.Payload.{Payload}
 use Rattle.proof_frames.specs.declared.row.Payload.TheVariants as payload
 use Rattle.proof_frames.specs.declared.row.Slot.{Slot}
 use Rattle.proof_frames.specs.declared.row.Slot.TheVariants as slot
-use Rattle.proof_frames.specs.Rows.{IsFree, May, FitsFields, FitsField, AreWithin, SpellElement, free, width, repeat, exactly, field_slots, payload_fields, payload_length}
-use Rattle.proof_frames.proofs.Octets.{IsByte, back_64, says_element}
+use Rattle.proof_frames.specs.Rows.{IsFree, May, FitsFields, FitsField, AreWithin, SpellElement, SpellNumber, last_bytes, next_with, number_size, free, width, repeat, exactly, field_slots, payload_fields, payload_length}
+use Rattle.proof_frames.proofs.Numbers.{next_most, next_low, low_bytes, low_front, below_size}
+use Rattle.proof_frames.proofs.Octets.{IsByte, back_64, half_octets, says_element}
 
 -- ---- bytes that may come one after another
 
@@ -75,9 +77,13 @@ come_rest one more before front rest sized all = λ k less.
 
 -- ---- one field
 
--- the last seven of more bytes
+-- the last of more bytes
+pub last_of : (count : ℕ) (before last : List ℕ) → length last ≡ count → last_bytes count (before ++ last) ≡ last
+last_of count before last sized = drop_at before last (length (before ++ last) - count) (omega (arith, length-append before last))
+
+-- the last seven
 pub last_seven : (before seven : List ℕ) → length seven ≡ 7 → drop (length (before ++ seven) - 7) (before ++ seven) ≡ seven
-last_seven before seven sized = drop_at before seven (length (before ++ seven) - 7) (omega (arith, length-append before seven))
+last_seven before seven sized = last_of 7 before seven sized
 
 -- before the last byte of an element anything may come
 pub element_slot : (n : ℕ) → n < 7 → get_or (field_slots field.Element) n free ≡ free
@@ -123,35 +129,86 @@ spells_element before bytes come sized =
         let at : 7 ≡ n = omega arith in
         subst (λ (m : ℕ). get_or bytes m 0 < 256) at (come 7 (omega arith)).0
 
+-- at the bytes of a number
+number_slot : (least most n : ℕ) → n < 4 → get_or (field_slots (field.Number least most)) n free ≡ slot.Number least most n
+number_slot least most zero less = refl
+number_slot least most (suc zero) less = refl
+number_slot least most (suc (suc zero)) less = refl
+number_slot least most (suc (suc (suc zero))) less = refl
+number_slot least most (suc (suc (suc (suc n)))) less = absurd (omega arith)
+
+-- bytes up to one of it
+up_to : (n : ℕ) (before bytes : List ℕ) → n < length bytes → last_bytes n (before ++ take n bytes) ++ get_or bytes n 0 ∷ [] ≡ take (n + 1) bytes
+up_to n before bytes less =
+    ap (λ l. l ++ get_or bytes n 0 ∷ []) (last_of n before (take n bytes) (length-take-le n bytes (omega arith))) ∙ sym (take_more bytes n 0 less)
+
+number_comes : (least most : ℕ) (before bytes : List ℕ) → SpellNumber least most bytes → ComeAfter (field_slots (field.Number least most)) before bytes
+number_comes least most before bytes spells = subst (ComeAfter (field_slots (field.Number least most)) before) (sym spells.spelled) (λ n less.
+    subst (λ (s : Slot). May s (before ++ take n four) (get_or four n 0)) (sym (number_slot least most n less)) (
+      half_octets spells.number n 0 less,
+      let reached = next_most n least spells.number spells.at_least in
+          let high = spells.at_most in
+          let low = ap (from_le_bytes w32) (up_to n before four less) ∙ low_bytes n spells.number less in
+          omega (arith, reached, high, ap (next_with least (number_size n)) low),
+    ))
+  where
+    four : List ℕ
+    four = to_le_bytes w32 spells.number
+
+-- what comes up to a byte of it are the low bytes of a number of the range
+pub reaches : (least most at : ℕ) (before bytes : List ℕ) → at < 4 → length bytes ≡ at + 1 → ComeAfter (field_slots (field.Number least most)) before bytes
+    → (n : ℕ) × (least ≤ n) × (n ≤ most) × (bytes ≡ take (at + 1) (to_le_bytes w32 n))
+reaches least most at before bytes less sized come =
+    let all : take (at + 1) bytes ≡ bytes = take_all (at + 1) bytes (omega arith) in
+    let octets : All IsByte bytes = All-from_get_or IsByte bytes 0 (λ k within. (may k within).0) in
+    let low : from_le_bytes w32 (last_bytes at (before ++ take at bytes) ++ get_or bytes at 0 ∷ []) ≡ from_le_bytes w32 bytes =
+    ap (from_le_bytes w32) (up_to at before bytes (omega arith) ∙ all) in
+    let n = next_with least (number_size at) (from_le_bytes w32 bytes) in (
+      n,
+      omega arith,
+      subst (λ (k : ℕ). next_with least (number_size at) k ≤ most) low (may at (omega arith)).1,
+      low_front at n bytes less sized octets (next_low at least (from_le_bytes w32 bytes) (below_size at bytes sized octets)),
+    )
+  where
+    may : (k : ℕ) → k < length bytes → May (slot.Number least most k) (before ++ take k bytes) (get_or bytes k 0)
+    may k within = subst (λ (s : Slot). May s (before ++ take k bytes) (get_or bytes k 0)) (number_slot least most k (omega arith)) (come k within)
+
+spells_number : (least most : ℕ) (before bytes : List ℕ) → ComeAfter (field_slots (field.Number least most)) before bytes → length bytes ≡ 4 → SpellNumber least most bytes
+spells_number least most before bytes come sized =
+    let reached = reaches least most 3 before bytes (omega arith) sized come in
+    record { number = reached.0; at_least = reached.1; at_most = reached.2; spelled = reached.3 }
+
 bytes_come : (count least most : ℕ) (before bytes : List ℕ) → AreWithin count least most bytes → ComeAfter (replicate count (slot.Range least most)) before bytes
 bytes_come count least most before bytes are = λ n less.
     subst (λ (s : Slot). May s (before ++ take n bytes) (get_or bytes n 0))
     (sym (get_or-replicate count n (slot.Range least most) free (let counted = are.counted in omega arith))) (are.ranged n 0 less)
 
-are_within : (count least most : ℕ) (before bytes : List ℕ) → ComeAfter (replicate count (slot.Range least most)) before bytes → length bytes ≡ count
-    → AreWithin count least most bytes
-are_within count least most before bytes come sized = record {
-  counted = sized;
-  ranged = All-from_get_or (λ byte. (least ≤ byte) × (byte ≤ most)) bytes 0 (λ n less.
-      subst (λ (s : Slot). May s (before ++ take n bytes) (get_or bytes n 0)) (get_or-replicate count n (slot.Range least most) free (omega arith)) (come n less));
-}
+pub within_range : (count least most : ℕ) (before bytes : List ℕ) → ComeAfter (replicate count (slot.Range least most)) before bytes → length bytes ≤ count
+    → All (λ byte. (least ≤ byte) × (byte ≤ most)) bytes
+within_range count least most before bytes come few = All-from_get_or (λ byte. (least ≤ byte) × (byte ≤ most)) bytes 0 (λ n less.
+    subst (λ (s : Slot). May s (before ++ take n bytes) (get_or bytes n 0)) (get_or-replicate count n (slot.Range least most) free (omega arith)) (come n less))
 
 pub field_comes : (one : Field) (before bytes : List ℕ) → FitsField one bytes → ComeAfter (field_slots one) before bytes
 field_comes (field.Bytes count size least most) before bytes fits = bytes_come (size * count) least most before bytes fits
 field_comes field.Element before bytes fits = element_comes before bytes fits
+field_comes (field.Number least most) before bytes fits = number_comes least most before bytes fits
 
 pub fits_field : (one : Field) (before bytes : List ℕ) → ComeAfter (field_slots one) before bytes → length bytes ≡ length (field_slots one) → FitsField one bytes
 fits_field (field.Bytes count size least most) before bytes come sized =
-    are_within (size * count) least most before bytes come (sized ∙ length-replicate (size * count) (slot.Range least most))
+    let counted = sized ∙ length-replicate (size * count) (slot.Range least most) in
+    record { counted = counted; ranged = within_range (size * count) least most before bytes come (omega (arith, counted)) }
 fits_field field.Element before bytes come sized = spells_element before bytes come sized
+fits_field (field.Number least most) before bytes come sized = spells_number least most before bytes come sized
 
 field_length : (one : Field) → length (field_slots one) ≡ width one
 field_length (field.Bytes count size least most) = length-replicate (size * count) (slot.Range least most)
 field_length field.Element = refl
+field_length (field.Number least most) = refl
 
 field_sized : (one : Field) (bytes : List ℕ) → FitsField one bytes → length bytes ≡ length (field_slots one)
 field_sized (field.Bytes count size least most) bytes fits = fits.counted ∙ sym (length-replicate (size * count) (slot.Range least most))
 field_sized field.Element bytes fits = ap length fits.spelled
+field_sized (field.Number least most) bytes fits = ap length fits.spelled
 
 -- ---- fields after one another
 
@@ -269,6 +326,8 @@ pub payload_sized : (p : Payload) → length (slots (payload_fields p)) ≡ payl
 payload_sized (payload.Elements count) = omega (arith, repeat_length (field.Element ∷ []) count)
 payload_sized (payload.Fields times first second) =
     repeat_length (first ∷ second ∷ []) times ∙ ap (λ n. times * n) (pair_length first second)
+payload_sized (payload.Three first second third) =
+    omega (arith, length-append (field_slots first) (slots (second ∷ third ∷ [])), field_length first, pair_length second third)
 
 -- ---- what may come at a byte of a payload
 
@@ -300,6 +359,13 @@ slot_of_element p count at is less =
     sym (ap (λ q. get_or (slots (payload_fields q)) at free) is
     ∙ slot_of_unit (field.Element ∷ []) count at 8 refl (let short : at < 8 * count = rw is at less in omega arith))
 
+-- of the first field, and of those behind it
+pub slot_in_front : (one : Field) (fields : List Field) (at : ℕ) → at < width one → get_or (field_slots one) at free ≡ get_or (slots (one ∷ fields)) at free
+slot_in_front one fields at here = sym (get_or_append_left (field_slots one) (slots fields) free at (omega (arith, here, field_length one)))
+
+pub slot_behind : (one : Field) (fields : List Field) (at wide : ℕ) → wide ≡ width one → wide ≤ at → get_or (slots fields) (at - wide) free ≡ get_or (slots (one ∷ fields)) at free
+slot_behind one fields at wide is_wide past = sym (get_or-append_right (field_slots one) (slots fields) wide at free (field_length one ∙ sym is_wide) past)
+
 -- of two fields, of which the sizes are known
 module _ (p : Payload) (times at wide more : ℕ) (first second : Field) (is : p ≡ payload.Fields times first second)
     (is_wide : wide ≡ width first) (is_more : more ≡ width second) (less : at < payload_length p) where
@@ -310,14 +376,12 @@ module _ (p : Payload) (times at wide more : ℕ) (first second : Field) (is : p
       ∙ (λ i. get_or (slots (first ∷ second ∷ [])) (at % (sym is_wide i + sym is_more i)) free)
 
   pub slot_of_first : at % (wide + more) < wide → get_or (field_slots first) (at % (wide + more)) free ≡ get_or (slots (payload_fields p)) at free
-  slot_of_first here =
-      sym (slot_of_two ∙ get_or_append_left (field_slots first) (field_slots second ++ []) free (at % (wide + more)) (omega (arith, here, is_wide, field_length first)))
+  slot_of_first here = slot_in_front first (second ∷ []) (at % (wide + more)) (omega (arith, here, is_wide)) ∙ sym slot_of_two
 
   pub slot_of_second : wide ≤ at % (wide + more) → get_or (field_slots second) (at % (wide + more) - wide) free ≡ get_or (slots (payload_fields p)) at free
   slot_of_second past =
-      sym (slot_of_two
-      ∙ get_or-append_right (field_slots first) (field_slots second ++ []) wide (at % (wide + more)) free (field_length first ∙ sym is_wide) past
-      ∙ ap (λ l. get_or l (at % (wide + more) - wide) free) (append-nil (field_slots second)))
+      ap (λ l. get_or l (at % (wide + more) - wide) free) (sym (append-nil (field_slots second)))
+      ∙ slot_behind first (second ∷ []) (at % (wide + more)) wide is_wide past ∙ sym slot_of_two
 
 -- where there is a byte each of the fields is short
 pub one_of_many : (times each at most : ℕ) → at < times * each → times * each ≤ most → each ≤ most
@@ -346,3 +410,4 @@ free_bytes p times at wide more first second is is_wide is_more less is_free her
     any_slot (field.Bytes count size least most) n is_free less =
         get_or-replicate (size * count) n (slot.Range least most) free less ∙ (λ i. slot.Range (is_free.0 i) (is_free.1 i))
     any_slot field.Element n is_free less = absurd is_free
+    any_slot (field.Number least most) n is_free less = absurd is_free

@@ -1,6 +1,6 @@
 -- What is held begins a frame: a byte more as it comes, a byte of an element, whole elements, and a whole frame.
 use Rattle.std.proofs.Common.{◌≡◌, ℕ, zero, suc, ◌+◌, ◌-◌, ◌*◌, ◌%◌, ◌<◌, ◌≤◌, ◌⊎◌, inl, inr, Bool, true, false, List, [], ◌∷◌, ◌++◌, map, flat_map, length, drop, get_or, refl, sym, ◌∙◌, ap, arith, length-append, append_assoc, append-nil, subst}
-use Rattle.std.specs.Prelude.{All}
+use Rattle.std.specs.Prelude.{All, vec_capacity}
 use Rattle.std.specs.Int.{w64, from_le_bytes}
 use Rattle.std.specs.List.{AllByRecursion}
 use Rattle.std.proofs.lemmas.Bool.{cases_lt}
@@ -17,13 +17,13 @@ use Rattle.proof_frames.specs.declared.row.Payload.TheVariants as payload
 use Rattle.proof_frames.specs.declared.row.Row.{Row}
 use Rattle.proof_frames.specs.declared.row.Slot.{Slot}
 use Rattle.proof_frames.specs.declared.row.Slot.TheVariants as slot
-use Rattle.proof_frames.specs.Holding.{AreElementsApart, AreKept, Holds, HasFrameRoom, Steps, bytes_of, is_list, elements_in, longest, spelled}
+use Rattle.proof_frames.specs.Holding.{AreElementsApart, AreKept, Holds, HasFrameRoom, Steps, bytes_of, is_list, elements_in, raw_length, longest, spelled}
 use Rattle.proof_frames.specs.Rows.{BeginsFrame, MayFollow, May, row_of, told_at, told, header, payload_length, payload_fields, row_fields, frame_slots, field_slots, free, exactly}
 use Rattle.proof_frames.proofs.Begun.{begins_more, begins_word, ends_here}
 use Rattle.proof_frames.proofs.EveryRow.{told_early, told_stays, list_row, same_list}
 use Rattle.proof_frames.proofs.Fields.{ComeAfter, slots, come_on, come_front, element_comes, element_slot, slot_of_element, last_seven}
 use Rattle.proof_frames.proofs.FrameLemmas.{length-elements}
-use Rattle.proof_frames.proofs.Lengths.{length_told, front_fits}
+use Rattle.proof_frames.proofs.Lengths.{length_told, length_untold, same_length, longest_frame, front_fits}
 use Rattle.proof_frames.proofs.Octets.{IsByte}
 use Rattle.proof_frames.proofs.Words.{IsWordAt}
 
@@ -43,6 +43,54 @@ only_raw start elements part empty =
 pub raw_empty : (list : Bool) (start elements part : List ℕ) → AreKept list start elements part → (list ≡ true → length start < 5) → (elements ≡ []) × (part ≡ [])
 raw_empty false start elements part kept early = kept
 raw_empty true start elements part kept early = kept.first (early refl)
+
+-- the row is told by the bytes as they came
+pub told_held : (place : Expect) (start elements part : List ℕ) → told_at place < length start → told place (spelled start elements part) ≡ told place start
+told_held place start elements part some =
+    ap (told place) (append_assoc start (flat_map element_bytes elements) part) ∙ told_stays place start (flat_map element_bytes elements ++ part) some
+
+pub length_held : (place : Expect) (held : Held) → told_at place < length held.start.items
+    → frame_length place (bytes_of held) ≡ 5 + payload_length (row_of place (told place held.start.items)).payload
+length_held place held some =
+    length_told place (bytes_of held) (omega (arith, some, length-spelled held.start.items held.elements.items held.part.items))
+    ∙ ap (λ byte. 5 + payload_length (row_of place byte).payload) (told_held place held.start.items held.elements.items held.part.items some)
+
+pub length_unheld : (place : Expect) (held : Held) → Holds place held → length held.start.items ≤ told_at place → frame_length place (bytes_of held) ≡ frame_length place []
+length_unheld place held holds early =
+    let empty = raw_empty (is_list (longest place)) held.start.items held.elements.items held.part.items holds.kept (λ list. omega (arith, early, told_early place)) in
+    length_untold place (bytes_of held)
+    (omega (arith, early, length-spelled held.start.items held.elements.items held.part.items, ap length empty.0, ap length empty.1))
+
+-- so many bytes more may come behind a header
+pub run_left : (place : Expect) (held : Held) (more : List ℕ) → 5 ≤ length held.start.items
+    → length (bytes_of held ++ more) ≤ frame_length place (bytes_of held ++ more)
+    → length held.start.items + length more ≤ 5 + payload_length (row_of place (told place held.start.items)).payload
+run_left place held more headed within =
+    let sized = length-spelled held.start.items held.elements.items held.part.items in
+    let some : told_at place < length held.start.items = omega (arith, headed, told_early place) in
+    omega (arith, within, sized, length-append (bytes_of held) more, same_length place (bytes_of held) more (omega (arith, some, sized)), length_held place held some)
+
+-- there is room for bytes as they come
+pub raw_room : (place : Expect) (held : Held) (more : List ℕ) → Holds place held → (is_list (longest place) ≡ true → length held.start.items + length more ≤ 5)
+    → length (bytes_of held ++ more) ≤ frame_length place (bytes_of held ++ more) → length held.start.items + length more ≤ vec_capacity held.start
+raw_room place held more holds early within = by_payload (longest place) refl
+  where
+    room : raw_length (longest place) ≤ vec_capacity held.start
+    room = holds.room.start
+
+    all : length held.start.items + length more ≤ 5 + payload_length (longest place)
+    all = omega (
+      arith,
+      within,
+      longest_frame place (bytes_of held ++ more),
+      length-append (bytes_of held) more,
+      length-spelled held.start.items held.elements.items held.part.items,
+    )
+
+    by_payload : (p : Payload) → longest place ≡ p → length held.start.items + length more ≤ vec_capacity held.start
+    by_payload (payload.Elements count) is = let few = early (ap is_list is) in omega (arith, few, room, ap raw_length is)
+    by_payload (payload.Fields times first second) is = omega (arith, all, room, ap raw_length is, ap payload_length is)
+    by_payload (payload.Three first second third) is = omega (arith, all, room, ap raw_length is, ap payload_length is)
 
 -- whether a byte may come where all bytes are as they came
 pub raw_follows : (place : Expect) (start given : List ℕ) (byte n : ℕ) (row : Row) (s : Slot) → row ≡ row_of place (told place (start ++ byte ∷ []))
@@ -274,8 +322,7 @@ elements_step place start elements now list headed begun ranged few = (
 
     -- both begin with the header
     told_both : (others : List ℕ) → told place (spelled start others []) ≡ told place start
-    told_both others =
-        ap (told place) (append_assoc start (flat_map element_bytes others) []) ∙ told_stays place start (flat_map element_bytes others ++ []) (omega (arith, headed, told_early place))
+    told_both others = told_held place start others [] (omega (arith, headed, told_early place))
 
     first : ComeAfter (slots (map exactly (header row))) [] start
     first =

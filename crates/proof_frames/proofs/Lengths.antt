@@ -6,6 +6,7 @@ use Rattle.zk_model.specs.declared.Expect.{Expect}
 use Rattle.zk_model.specs.declared.Expect.TheVariants as expect
 use Rattle.zk_model.specs.declared.limits.TheConstants.{MAX_PAYLOAD}
 use Rattle.proof_frames.specs.declared.row.Row.{Row}
+use Rattle.proof_frames.specs.Holding.{longest}
 use Rattle.proof_frames.specs.Readings.{IsShortPlace}
 use Rattle.proof_frames.specs.Rows.{row_of, told_at, told, payload_length, payload_fields}
 use Rattle.proof_frames.proofs.EveryRow.{every_row, told_early, told_stays}
@@ -28,6 +29,12 @@ length_told expect.Grant (first ∷ bytes) some = by_first (nat_eq first 10) ref
     by_first : (b : Bool) → nat_eq first 10 ≡ b → frame_length expect.Grant (first ∷ bytes) ≡ 5 + payload_length (row_of expect.Grant first).payload
     by_first true e = rw e refl
     by_first false e = rw e refl
+length_told expect.Block [] some = absurd (omega arith)
+length_told expect.Block (first ∷ bytes) some = by_first (nat_eq first 13) refl
+  where
+    by_first : (b : Bool) → nat_eq first 13 ≡ b → frame_length expect.Block (first ∷ bytes) ≡ 5 + payload_length (row_of expect.Block first).payload
+    by_first true e = rw e refl
+    by_first false e = rw e refl
 length_told place bytes some = omega arith
 
 -- without it no more than up to it is wanted
@@ -37,6 +44,8 @@ length_untold expect.Hello (first ∷ []) early = refl
 length_untold expect.Hello (first ∷ low ∷ bytes) early = absurd (omega arith)
 length_untold expect.Grant [] early = refl
 length_untold expect.Grant (first ∷ bytes) early = absurd (omega arith)
+length_untold expect.Block [] early = refl
+length_untold expect.Block (first ∷ bytes) early = absurd (omega arith)
 length_untold place bytes early = refl
 
 -- what is wanted before the first byte goes beyond it, and no row has less
@@ -45,7 +54,7 @@ first_wanted expect.Hello = omega arith
 first_wanted place = omega arith
 
 least_row : (place : Expect) (byte : ℕ) → frame_length place [] ≤ 5 + payload_length (row_of place byte).payload
-least_row = every_row (λ place row. frame_length place [] ≤ 5 + payload_length row.payload) (omega arith) (omega arith) by_place
+least_row = every_row (λ place row. frame_length place [] ≤ 5 + payload_length row.payload) (omega arith) (omega arith) (omega arith) by_place
   where
     by_place : (place : Expect) → frame_length place [] ≤ 5 + payload_length (row_of place 0).payload
     by_place expect.Hello = omega arith
@@ -65,7 +74,7 @@ told_within place bytes = omega (arith, first_wanted place, least_length place b
 
 -- a frame of a short place has a short payload
 pub short_row : (place : Expect) (byte : ℕ) → IsShortPlace place → payload_length (row_of place byte).payload ≤ MAX_PAYLOAD
-short_row = every_row (λ place row. IsShortPlace place → payload_length row.payload ≤ MAX_PAYLOAD) (λ short. omega arith) (λ short. omega arith) by_place
+short_row = every_row (λ place row. IsShortPlace place → payload_length row.payload ≤ MAX_PAYLOAD) (λ short. omega arith) (λ short. omega arith) (λ short. omega arith) by_place
   where
     by_place : (place : Expect) → IsShortPlace place → payload_length (row_of place 0).payload ≤ MAX_PAYLOAD
     by_place expect.Hello short = omega arith
@@ -78,6 +87,21 @@ short_frame place bytes short = by_length (cases_lt (told_at place) (length byte
     by_length : (told_at place < length bytes) ⊎ (length bytes ≤ told_at place) → frame_length place bytes ≤ MAX_PAYLOAD + 5
     by_length (inl some) = omega (arith, length_told place bytes some, short_row place (told place bytes) short)
     by_length (inr early) = omega (arith, length_untold place bytes early, short)
+
+-- no frame of a place is longer than the longest
+longest_row : (place : Expect) (byte : ℕ) → payload_length (row_of place byte).payload ≤ payload_length (longest place)
+longest_row = every_row (λ place row. payload_length row.payload ≤ payload_length (longest place)) (omega arith) (omega arith) (omega arith) by_place
+  where
+    by_place : (place : Expect) → payload_length (row_of place 0).payload ≤ payload_length (longest place)
+    by_place expect.Hello = omega arith
+    by_place place = omega arith
+
+pub longest_frame : (place : Expect) (bytes : List ℕ) → frame_length place bytes ≤ 5 + payload_length (longest place)
+longest_frame place bytes = by_length (cases_lt (told_at place) (length bytes))
+  where
+    by_length : (told_at place < length bytes) ⊎ (length bytes ≤ told_at place) → frame_length place bytes ≤ 5 + payload_length (longest place)
+    by_length (inl some) = omega (arith, length_told place bytes some, longest_row place (told place bytes))
+    by_length (inr early) = omega (arith, length_untold place bytes early, least_row place 129)
 
 -- the length of a frame is told by one byte
 pub same_length : (place : Expect) (bytes more : List ℕ) → told_at place < length bytes → frame_length place (bytes ++ more) ≡ frame_length place bytes

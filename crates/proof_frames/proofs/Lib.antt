@@ -1,8 +1,10 @@
 pub mod FrameLemmas
 pub mod Octets
+pub mod Numbers
 pub mod Sums
 pub mod Fields
 pub mod EveryRow
+pub mod Completed
 pub mod Spells
 pub mod TreeFrames
 pub mod Words

@@ -140,6 +140,13 @@ element_spells = record {
   back = λ bytes fits. record { value = fits.element; is = fits.is; spelled = fits.spelled };
 }
 
+-- a number of 32 bits in a range
+abbrev pub number_spells : (least most : ℕ) → Spells (to_le_bytes w32) (λ n. (least ≤ n) × (n ≤ most)) (FitsField (field.Number least most))
+number_spells least most = record {
+  fits = λ n range. record { number = n; at_least = range.0; at_most = range.1; spelled = refl };
+  back = λ bytes fits. record { value = fits.number; is = (fits.at_least, fits.at_most); spelled = fits.spelled };
+}
+
 -- one field alone, of a payload of elements or of any
 abbrev pub single_spells : {A : Type 0} {f : A → List ℕ} {P : A → Type 0} (one : Field) → Spells f P (FitsField one) → Spells f P (FitsFields (one ∷ []))
 single_spells {f} one code = record {
@@ -147,16 +154,21 @@ single_spells {f} one code = record {
   back = λ bytes fits. code.back bytes (subst (FitsField one) (sym (fits.2 ∙ ap (λ l. fits.0 ++ l) fits.4 ∙ append-nil fits.0)) fits.3);
 }
 
+-- one field, and others after it
+abbrev pub front_spells : {A B : Type 0} {f : A → List ℕ} {P : A → Type 0} {g : B → List ℕ} {R : B → Type 0} (one : Field) (fields : List Field) → Spells f P (FitsField one)
+    → Spells g R (FitsFields fields) → Spells (λ (both : A × B). f both.0 ++ g both.1) (λ both. P both.0 × R both.1) (FitsFields (one ∷ fields))
+front_spells {f} {g} one fields first others = record {
+  fits = λ both are. (f both.0, g both.1, refl, first.fits both.0 are.0, others.fits both.1 are.1);
+  back = λ bytes fits.
+      let front = first.back fits.0 fits.3 in
+      let rest = others.back fits.1 fits.4 in
+      record { value = (front.value, rest.value); is = (front.is, rest.is); spelled = fits.2 ∙ (λ i. front.spelled i ++ rest.spelled i) };
+}
+
 -- one field, and another after it
 abbrev pub two_spell : {A B : Type 0} {f : A → List ℕ} {P : A → Type 0} {g : B → List ℕ} {R : B → Type 0} (one two : Field) → Spells f P (FitsField one) → Spells g R (FitsField two)
     → Spells (λ (both : A × B). f both.0 ++ g both.1) (λ both. P both.0 × R both.1) (FitsFields (one ∷ two ∷ []))
-two_spell {f} {g} one two first second = record {
-  fits = λ both are. (f both.0, g both.1, refl, first.fits both.0 are.0, (single_spells two second).fits both.1 are.1);
-  back = λ bytes fits.
-      let front = first.back fits.0 fits.3 in
-      let rest = (single_spells two second).back fits.1 fits.4 in
-      record { value = (front.value, rest.value); is = (front.is, rest.is); spelled = fits.2 ∙ (λ i. front.spelled i ++ rest.spelled i) };
-}
+two_spell one two first second = front_spells one (two ∷ []) first (single_spells two second)
 
 -- fields so many times
 pub many_spell : {A : Type 0} {f : A → List ℕ} {P : A → Type 0} (fields : List Field) → Spells f P (FitsFields fields) → (count : ℕ)

@@ -1,16 +1,22 @@
 -- The frames that a place allows are told by their bytes.
 use Rattle.std.proofs.Common.{◌≡◌, ℕ, inl, inr, [], ◌++◌, drop, get_or, sym, ◌∙◌, ap, arith, append-nil}
 use Rattle.std.specs.Int.{w32, to_le_bytes}
+use Rattle.std.proofs.lemmas.Nat.{from_le_bytes-to_le_bytes_4, from_le_bytes-to_le_bytes_8}
 use Rattle.frame_laws.proofs.Codes.{IsCode, word32_code, word64_code, element_code, frame_code}
 use Rattle.frame_laws.proofs.FrameCodes.{hello_code, asks_code, replies_code, elements_code, sums_code}
 use Rattle.zk_model.specs.Field.{IsElement}
 use Rattle.zk_model.specs.Bytes.{element_bytes}
 use Rattle.zk_model.specs.Transcript.{BeginsWith, Grant, IsHello, grant_frame, verdict_frame, refuse_frame}
+use Rattle.zk_model.specs.Messages.{FitsWant, FitsBlock, FitsOut, want_frame, block_frame, out_frame}
+use Rattle.zk_model.specs.declared.messages.Block.{Block}
+use Rattle.zk_model.specs.declared.messages.Out.{Out}
 use Rattle.zk_model.specs.Frames as model
 use Rattle.zk_model.specs.Frames.{Frame, FitsGrant, FitsRefusal, FitsVerdict, AreAsks, AreReplies, AreElements, AreSums, frame_spelling}
 use Rattle.zk_model.specs.declared.Expect.TheVariants as expect
 use Rattle.zk_model.specs.declared.FrameKind.TheVariants as kind
+use Rattle.proof_frames.specs.Frames.{want_in, block_in, out_in}
 use Rattle.proof_frames.specs.Laws.{OneFrame, NoneBeginsAnother}
+use Rattle.proof_frames.proofs.Words.{want_again}
 
 -- ---- values that their frames tell
 
@@ -31,6 +37,31 @@ verdict_code x y ps qs left right same =
 
 refusal_code : IsCode refuse_frame FitsRefusal
 refusal_code x y ps qs left right same = (ap (λ l. get_or l 5 0) same, ap (drop 6) same)
+
+want_code : IsCode want_frame FitsWant
+want_code x y ps qs left right same = (sym (want_again x left) ∙ ap (λ l. want_in (drop 5 l)) same ∙ want_again y right, ap (drop 21) same)
+
+block_code : IsCode block_frame FitsBlock
+block_code x y ps qs left right same =
+    (sym (again x left) ∙ ap (λ l. block_in (drop 5 l)) same ∙ again y right, ap (drop 29) same)
+  where
+    again : (block : Block) → FitsBlock block → block_in (drop 5 (block_frame block)) ≡ block
+    again block is = λ i. record {
+      node = from_le_bytes-to_le_bytes_4 block.node is.node i;
+      number = from_le_bytes-to_le_bytes_8 block.number is.number i;
+      start = from_le_bytes-to_le_bytes_8 block.start is.start i;
+      count = from_le_bytes-to_le_bytes_4 block.count is.count i;
+    }
+
+out_code : IsCode out_frame FitsOut
+out_code x y ps qs left right same = (sym (again x left) ∙ ap (λ l. out_in (drop 5 l)) same ∙ again y right, ap (drop 25) same)
+  where
+    again : (out : Out) → FitsOut out → out_in (drop 5 (out_frame out)) ≡ out
+    again out is = λ i. record {
+      node = from_le_bytes-to_le_bytes_4 out.node is.node i;
+      number = from_le_bytes-to_le_bytes_8 out.number is.number i;
+      at = from_le_bytes-to_le_bytes_8 out.at is.at i;
+    }
 
 -- ---- frames
 
@@ -70,6 +101,15 @@ none_begins_another (expect.Openings count) one other a b = by_code model.openin
     (λ x y ps qs is is_too. elements_code kind.Openings count x y ps qs (is.counted, is.ranged) (is_too.counted, is_too.ranged)) one other a b
 none_begins_another expect.Verdict one other a b =
     by_code (λ (said : ℕ × ℕ). model.verdict said.0 said.1) (λ said. FitsVerdict said.0 said.1) verdict_code one other ((a.0, a.1), a.2, a.3) ((b.0, b.1), b.2, b.3)
+none_begins_another expect.Want one other a b = by_code model.want FitsWant want_code one other a b
+none_begins_another expect.Block one other (inl a) (inl b) = by_code model.block FitsBlock block_code one other a b
+none_begins_another expect.Block one other (inl a) (inr b) = λ begun.
+    let kinds : 12 ≡ 13 = ap (λ l. get_or l 0 0) (facing one other (model.block a.0) (model.out b.0) a.1 b.1 begun) in
+    absurd (omega (arith, kinds))
+none_begins_another expect.Block one other (inr a) (inl b) = λ begun.
+    let kinds : 13 ≡ 12 = ap (λ l. get_or l 0 0) (facing one other (model.out a.0) (model.block b.0) a.1 b.1 begun) in
+    absurd (omega (arith, kinds))
+none_begins_another expect.Block one other (inr a) (inr b) = by_code model.out FitsOut out_code one other a b
 
 pub one_frame : OneFrame
 one_frame place bytes one other is is_too =

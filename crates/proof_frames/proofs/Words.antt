@@ -1,8 +1,9 @@
 -- The frames that a place allows, as bytes that its row allows, and back.
-use Rattle.std.proofs.Common.{◌≡◌, ℕ, ◌+◌, ◌*◌, inl, inr, List, [], ◌∷◌, ◌++◌, flat_map, length, get_or, refl, sym, ◌∙◌, ap, arith, append_assoc, append-nil, length-append, subst}
+use Rattle.std.proofs.Common.{◌≡◌, ℕ, ◌+◌, ◌-◌, ◌*◌, inl, inr, List, [], ◌∷◌, ◌++◌, flat_map, length, drop, get_or, refl, sym, ◌∙◌, ap, arith, append_assoc, append-nil, length-append, subst}
 use Rattle.std.specs.Prelude.{Bool, true, false, Option, Some, None, unwrap_or, IfSome, if◌then◌else◌, nat_eq}
 use Rattle.std.specs.Int.{w32, w64, to_le_bytes}
 use Rattle.std.proofs.lemmas.List.{nil_from_length}
+use Rattle.std.proofs.lemmas.Nat.{from_le_bytes-to_le_bytes_4, from_le_bytes-to_le_bytes_8}
 use Rattle.std.proofs.lemmas.List.Elements.{All-nil, All-from_recursion, recursion_from_All}
 use Rattle.frame_laws.proofs.Hellos.{hello_payload}
 use Rattle.zk_model.specs.Field.{IsElement}
@@ -10,17 +11,22 @@ use Rattle.zk_model.specs.Bytes.{AreBytes, element_bytes}
 use Rattle.zk_model.specs.Transcript.{Hello, Grant, IsHello, frame_bytes, kind_number}
 use Rattle.zk_model.specs.Frames as model
 use Rattle.zk_model.specs.Frames.{Frame, Allows, IsWhole, FitsGrant, FitsVerdict, FitsRefusal, AreAsks, AreReplies, AreElements, AreSums, frame_spelling}
+use Rattle.zk_model.specs.Messages.{FitsWant, FitsBlock, FitsOut}
+use Rattle.zk_model.specs.declared.limits.TheConstants.{MAX_NODES, MAX_UNITS}
+use Rattle.zk_model.specs.declared.messages.Block.{Block}
+use Rattle.zk_model.specs.declared.messages.Out.{Out}
+use Rattle.zk_model.specs.declared.messages.Want.{Want}
 use Rattle.zk_model.specs.declared.Expect.{Expect}
 use Rattle.zk_model.specs.declared.Expect.TheVariants as expect
 use Rattle.proof_frames.specs.declared.row.Field.{Field}
 use Rattle.proof_frames.specs.declared.row.Field.TheVariants as field
 use Rattle.proof_frames.specs.declared.row.Row.{Row}
-use Rattle.proof_frames.specs.Frames.{ask_bytes, reply_bytes, flattened, sums_payload, digest_in, hello_in, grant_or_refusal_in, verdict_in}
-use Rattle.proof_frames.specs.Rows.{FitsFields, FitsField, AreWithin, any, between, one_field, repeat, row_of, told, header, payload_fields, tree_fields}
+use Rattle.proof_frames.specs.Frames.{ask_bytes, reply_bytes, flattened, sums_payload, digest_in, hello_in, grant_or_refusal_in, verdict_in, want_in, block_or_out_in}
+use Rattle.proof_frames.specs.Rows.{FitsFields, FitsField, AreWithin, any, between, one_field, want_payload, repeat, row_of, told, header, payload_fields, tree_fields}
 use Rattle.proof_frames.proofs.EveryRow.{header_tells, told_early, told_stays}
 use Rattle.proof_frames.proofs.Fields.{fits_length, payload_sized, one_item}
 use Rattle.proof_frames.proofs.Octets.{IsByte}
-use Rattle.proof_frames.proofs.Spells.{Spells, as_spells, bytes_spell, byte_spells, word_spells, half_spells, both_spell, octets_fit, fit_octets, element_spells, single_spells, two_spell, many_spell, ask_spells, reply_spells}
+use Rattle.proof_frames.proofs.Spells.{Spells, as_spells, bytes_spell, byte_spells, word_spells, half_spells, both_spell, octets_fit, fit_octets, element_spells, number_spells, single_spells, front_spells, two_spell, many_spell, ask_spells, reply_spells}
 use Rattle.proof_frames.proofs.Sums.{flattened_bytes, length-flattened, flattened_elements, paired, flattened_paired, paired_elements}
 
 -- the bytes of a frame of a row
@@ -121,6 +127,42 @@ grant_spells = as_spells grant_payload FitsGrant (both_spell 8 8 0 255 word_spel
       sym (append_assoc (to_le_bytes w64 parts.0) (to_le_bytes w32 parts.1.0) (to_le_bytes w32 parts.1.1)),
     ))
 
+-- what nodes and a broker send
+abbrev want_bytes : Want → List ℕ
+want_bytes want = to_le_bytes w32 want.node ++ to_le_bytes w64 want.number ++ to_le_bytes w32 want.count
+
+abbrev want_spells : Spells want_bytes FitsWant (FitsFields (payload_fields want_payload))
+want_spells = as_spells want_bytes FitsWant
+    (front_spells (field.Number 0 (MAX_NODES - 1)) (any 8 ∷ field.Number 1 MAX_UNITS ∷ []) (number_spells 0 (MAX_NODES - 1))
+    (two_spell (any 8) (field.Number 1 MAX_UNITS) word_spells (number_spells 1 MAX_UNITS)))
+    (λ want is. ((want.node, (want.number, want.count)), ((omega arith, let few = is.node in omega arith), (is.number, (is.least, is.most))), refl))
+    (λ parts is. (
+      record { node = parts.0; number = parts.1.0; count = parts.1.1 },
+      record { node = let few = is.0.1 in omega arith; number = is.1.0; least = is.1.1.0; most = is.1.1.1 },
+      refl,
+    ))
+
+abbrev block_bytes : Block → List ℕ
+block_bytes block = to_le_bytes w32 block.node ++ to_le_bytes w64 block.number ++ to_le_bytes w64 block.start ++ to_le_bytes w32 block.count
+
+abbrev block_spells : Spells block_bytes FitsBlock (AreWithin 24 0 255)
+block_spells = as_spells block_bytes FitsBlock
+    (both_spell 4 20 0 255 half_spells (both_spell 8 12 0 255 word_spells (both_spell 8 4 0 255 word_spells half_spells)))
+    (λ block is. ((block.node, (block.number, (block.start, block.count))), (is.node, (is.number, (is.start, is.count))), refl))
+    (λ parts is. (
+      record { node = parts.0; number = parts.1.0; start = parts.1.1.0; count = parts.1.1.1 },
+      record { node = is.0; number = is.1.0; start = is.1.1.0; count = is.1.1.1 },
+      refl,
+    ))
+
+abbrev out_bytes : Out → List ℕ
+out_bytes out = to_le_bytes w32 out.node ++ to_le_bytes w64 out.number ++ to_le_bytes w64 out.at
+
+abbrev out_spells : Spells out_bytes FitsOut (AreWithin 20 0 255)
+out_spells = as_spells out_bytes FitsOut (both_spell 4 16 0 255 half_spells (both_spell 8 8 0 255 word_spells word_spells))
+    (λ out is. ((out.node, (out.number, out.at)), (is.node, (is.number, is.at)), refl))
+    (λ parts is. (record { node = parts.0; number = parts.1.0; at = parts.1.1 }, record { node = is.0; number = is.1.0; at = is.1.1 }, refl))
+
 abbrev refusal_spells : Spells (λ code. code ∷ []) FitsRefusal (AreWithin 1 1 4)
 refusal_spells = as_spells (λ code. code ∷ []) FitsRefusal (byte_spells 1 4)
     (λ code is. (code, (is.least, is.most), refl)) (λ code is. (code, record { least = is.0; most = is.1 }, refl))
@@ -206,7 +248,17 @@ grants = means (row_of expect.Grant 0) model.grant (alone_spells (any 16) grant_
 abbrev refusals : Means (row_of expect.Grant 10) (Frames model.refuse FitsRefusal)
 refusals = means (row_of expect.Grant 10) model.refuse (alone_spells (between 1 4) refusal_spells) (λ code. refl)
 
+-- blocks, and that no units are left
+abbrev blocks : Means (row_of expect.Block 0) (Frames model.block FitsBlock)
+blocks = means (row_of expect.Block 0) model.block (alone_spells (any 24) block_spells) (λ given. refl)
+
+abbrev outs : Means (row_of expect.Block 13) (Frames model.out FitsOut)
+outs = means (row_of expect.Block 13) model.out (alone_spells (any 20) out_spells) (λ said. refl)
+
 -- the frames of a place that has one row
+abbrev wants : Means (row_of expect.Want 0) (Frames model.want FitsWant)
+wants = means (row_of expect.Want 0) model.want want_spells (λ said. refl)
+
 abbrev verdict_of : ℕ × ℕ → Frame
 verdict_of said = model.verdict said.0 said.1
 
@@ -255,14 +307,39 @@ verdict_said payload fits =
     subst (Says expect.Verdict (row_of expect.Verdict 0) payload) (ap verdict_in (sym front))
     (record { allowed = (said.1.0.0, said.1.0.1, said.1.1, said.1.2); spelled = said.2 })
 
+-- a want's bytes say it
+pub want_again : (want : Want) → FitsWant want → want_in (want_bytes want) ≡ want
+want_again want is = λ i. record {
+  node = from_le_bytes-to_le_bytes_4 want.node (let few = is.node in omega arith) i;
+  number = from_le_bytes-to_le_bytes_8 want.number is.number i;
+  count = from_le_bytes-to_le_bytes_4 want.count (let few = is.most in omega arith) i;
+}
+
+pub want_said : (payload : List ℕ) → FitsFields (payload_fields (row_of expect.Want 0).payload) payload
+    → Says expect.Want (row_of expect.Want 0) payload (model.want (want_in payload))
+want_said payload fits =
+    let said = wants.frame payload fits in
+    let same : want_in payload ≡ said.1.0 = ap want_in (sym (ap (drop 5) said.2)) ∙ want_again said.1.0 said.1.2 in
+    subst (Says expect.Want (row_of expect.Want 0) payload) (ap model.want (sym same)) (record { allowed = said.1; spelled = said.2 })
+
+pub block_said : (byte : ℕ) (payload : List ℕ) → FitsFields (payload_fields (row_of expect.Block byte).payload) payload
+    → Says expect.Block (row_of expect.Block byte) payload (block_or_out_in byte payload)
+block_said byte payload = by_first (nat_eq byte 13) refl
+  where
+    by_first : (b : Bool) → nat_eq byte 13 ≡ b → FitsFields (payload_fields (row_of expect.Block byte).payload) payload
+        → Says expect.Block (row_of expect.Block byte) payload (block_or_out_in byte payload)
+    by_first true e = rw e (λ fits. let said = outs.frame payload fits in record { allowed = inr said.1; spelled = said.2 })
+    by_first false e = rw e (λ fits. let said = blocks.frame payload fits in record { allowed = inl said.1; spelled = said.2 })
+
 -- ---- all frames
 
--- the frames at a place, but for long greetings and refusals
+-- the frames at a place, but for long greetings, refusals and outs
 abbrev Plain : Expect → Frame → Type 0
 Plain expect.Hello frame = Frames model.hello (λ said. IsHello said × IsDigest 0 said.public) frame
 Plain expect.ShortHello frame = Frames model.hello (λ said. IsHello said × IsDigest 0 said.public) frame
 Plain expect.Grant frame = Frames model.grant FitsGrant frame
 Plain expect.Verdict frame = Frames verdict_of (λ said. FitsVerdict said.0 said.1) frame
+Plain expect.Block frame = Frames model.block FitsBlock frame
 Plain place frame = Allows place frame
 
 plain : (place : Expect) → Means (row_of place 0) (Plain place)
@@ -276,6 +353,8 @@ plain expect.Challenge = means (row_of expect.Challenge 0) model.challenge chall
 plain (expect.Sums sections) = means (row_of (expect.Sums sections) 0) model.sums (sums_spell sections) (λ said. refl)
 plain (expect.Openings count) = means (row_of (expect.Openings count) 0) model.openings (elements_spell count) (λ said. refl)
 plain expect.Verdict = verdicts
+plain expect.Want = wants
+plain expect.Block = blocks
 
 -- a frame of a row is a word
 of_row : (place : Expect) (byte : ℕ) (frame : Frame) {Of : Frame → Type 0} → Means (row_of place byte) Of → Of frame → IsWordAt place (frame_spelling frame)
@@ -299,6 +378,8 @@ allowed_word expect.Hello frame is = by_public is.0.public refl
 allowed_word expect.ShortHello frame is = of_row expect.ShortHello 0 frame short_hellos (is.0, is.1, (is.2, subst (IsDigest 0) (sym is.3) (tt, refl)))
 allowed_word expect.Grant frame (inl is) = of_row expect.Grant 0 frame grants is
 allowed_word expect.Grant frame (inr is) = of_row expect.Grant 10 frame refusals is
+allowed_word expect.Block frame (inl is) = of_row expect.Block 0 frame blocks is
+allowed_word expect.Block frame (inr is) = of_row expect.Block 13 frame outs is
 allowed_word expect.Verdict frame is = of_row expect.Verdict 0 frame verdicts ((is.0, is.1), is.2, is.3)
 allowed_word place frame is = of_row place 0 frame (plain place) is
 
@@ -320,5 +401,6 @@ word_whole place word is =
     payload_said expect.Hello byte bytes fits = (model.hello (hello_in bytes), hello_said byte bytes fits)
     payload_said expect.ShortHello byte bytes fits = (model.hello (hello_in bytes), short_hello_said byte bytes fits)
     payload_said expect.Grant byte bytes fits = (grant_or_refusal_in byte bytes, grant_said byte bytes fits)
+    payload_said expect.Block byte bytes fits = (block_or_out_in byte bytes, block_said byte bytes fits)
     payload_said expect.Verdict byte bytes fits = (verdict_in bytes, verdict_said bytes fits)
     payload_said place byte bytes fits = let said = (plain place).frame bytes fits in (said.0, record { allowed = said.1; spelled = said.2 })

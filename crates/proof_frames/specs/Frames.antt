@@ -9,6 +9,9 @@ use Rattle.zk_model.specs.Frames.{frame_spelling}
 use Rattle.zk_model.specs.Transcript.{Hello, Grant, TreeAsk, TreeReply}
 use Rattle.zk_model.specs.declared.FrameKind.{FrameKind}
 use Rattle.zk_model.specs.declared.FrameKind.TheVariants as kind
+use Rattle.zk_model.specs.declared.messages.Block.{Block}
+use Rattle.zk_model.specs.declared.messages.Out.{Out}
+use Rattle.zk_model.specs.declared.messages.Want.{Want}
 use Rattle.proof_frames.specs.declared.frame.Frame.{Frame}
 use Rattle.proof_frames.specs.declared.frame.Frame.TheVariants as frame
 use Rattle.zk_model.specs.declared.limits.TheConstants.{MAX_PAYLOAD}
@@ -25,6 +28,9 @@ frame_value (frame.Sums both) = model.sums both.items
 frame_value (frame.Openings macs) = model.openings macs.items
 frame_value (frame.Verdict code number) = model.verdict code number
 frame_value (frame.Refuse code) = model.refuse code
+frame_value (frame.Want said) = model.want said
+frame_value (frame.Block given) = model.block given
+frame_value (frame.Out said) = model.out said
 
 -- the kind of a frame
 abbrev pub kind_of : model.Frame → FrameKind
@@ -38,6 +44,9 @@ kind_of (model.sums both) = kind.Sums
 kind_of (model.openings macs) = kind.Openings
 kind_of (model.verdict code number) = kind.Verdict
 kind_of (model.refuse code) = kind.Refuse
+kind_of (model.want frame_value) = kind.Want
+kind_of (model.block given) = kind.Block
+kind_of (model.out frame_value) = kind.Out
 
 -- a frame of at most 2^24 bytes after its kind and its length
 abbrev pub IsShort : model.Frame → Type 0
@@ -102,3 +111,32 @@ grant_or_refusal_in first bytes = if nat_eq first 10 then model.refuse (get_or b
 -- the verdict that a payload says
 abbrev pub verdict_in : List ℕ → model.Frame
 verdict_in bytes = model.verdict (get_or bytes 0 0) (from_le_bytes w32 (drop 1 bytes))
+
+-- the want that a payload says
+abbrev pub want_in : List ℕ → Want
+want_in bytes = record {
+  node = from_le_bytes w32 (take 4 bytes);
+  number = from_le_bytes w64 (take 8 (drop 4 bytes));
+  count = from_le_bytes w32 (drop 8 (drop 4 bytes));
+}
+
+-- the block that a payload says
+abbrev pub block_in : List ℕ → Block
+block_in bytes = record {
+  node = from_le_bytes w32 (take 4 bytes);
+  number = from_le_bytes w64 (take 8 (drop 4 bytes));
+  start = from_le_bytes w64 (take 8 (drop 8 (drop 4 bytes)));
+  count = from_le_bytes w32 (drop 8 (drop 8 (drop 4 bytes)));
+}
+
+-- that no units are left, as a payload says it
+abbrev pub out_in : List ℕ → Out
+out_in bytes = record {
+  node = from_le_bytes w32 (take 4 bytes);
+  number = from_le_bytes w64 (take 8 (drop 4 bytes));
+  at = from_le_bytes w64 (drop 8 (drop 4 bytes));
+}
+
+-- what a payload says after a kind in the place of a block
+abbrev pub block_or_out_in : ℕ → List ℕ → model.Frame
+block_or_out_in first bytes = if nat_eq first 13 then model.out (out_in bytes) else model.block (block_in bytes)

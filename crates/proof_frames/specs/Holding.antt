@@ -14,17 +14,17 @@ use Rattle.proof_frames.specs.declared.row.Payload.TheVariants as payload
 -- whether a payload is elements alone, which are held as elements
 abbrev pub is_list : Payload → Bool
 is_list (payload.Elements count) = true
-is_list (payload.Fields times first second) = false
+is_list other = false
 
 -- how many elements a payload alone is
 abbrev pub elements_in : Payload → ℕ
 elements_in (payload.Elements count) = count
-elements_in (payload.Fields times first second) = 0
+elements_in other = 0
 
 -- how many bytes of a frame are held as they came
 abbrev pub raw_length : Payload → ℕ
 raw_length (payload.Elements count) = 5
-raw_length (payload.Fields times first second) = 5 + payload_length (payload.Fields times first second)
+raw_length other = 5 + payload_length other
 
 -- the payload of the longest frame at a place
 abbrev pub longest : Expect → Payload

@@ -1,5 +1,5 @@
 -- The rows of frames: a kind and fields, and the bytes that they allow.
-use Rattle.std.specs.Prelude.{◌≡◌, ℕ, zero, suc, ◌+◌, ◌-◌, ◌*◌, ◌<◌, ◌≤◌, if◌then◌else◌, nat_eq, List, [], ◌∷◌, ◌++◌, map, flat_map, length, take, drop, get_or, replicate, All}
+use Rattle.std.specs.Prelude.{◌≡◌, ℕ, zero, suc, ◌+◌, ◌-◌, ◌*◌, ◌%◌, ◌^◌, ◌<◌, ◌≤◌, if◌then◌else◌, nat_eq, List, [], ◌∷◌, ◌++◌, map, flat_map, length, take, drop, get_or, replicate, All}
 use Rattle.std.specs.Int.{w32, w64, to_le_bytes, from_le_bytes}
 use Rattle.zk_model.specs.Field.{IsElement}
 use Rattle.zk_model.specs.Bytes.{element_bytes}
@@ -8,6 +8,7 @@ use Rattle.zk_model.specs.Transcript.{kind_number}
 use Rattle.zk_model.specs.declared.Expect.{Expect}
 use Rattle.zk_model.specs.declared.Expect.TheVariants as expect
 use Rattle.zk_model.specs.declared.FrameKind.TheVariants as kind
+use Rattle.zk_model.specs.declared.limits.TheConstants.{MAX_NODES, MAX_UNITS}
 use Rattle.proof_frames.specs.declared.row.Field.{Field}
 use Rattle.proof_frames.specs.declared.row.Field.TheVariants as field
 use Rattle.proof_frames.specs.declared.row.Payload.{Payload}
@@ -39,6 +40,10 @@ between least most = field.Bytes 1 1 least most
 abbrev pub one_field : Field → Payload
 one_field one = payload.Fields 1 one (any 0)
 
+-- a node, any number of 64 bits, and a count of units
+abbrev pub want_payload : Payload
+want_payload = payload.Three (field.Number 0 (MAX_NODES - 1)) (any 8) (field.Number 1 MAX_UNITS)
+
 -- for each level of a tree so many bytes, each up to the most
 abbrev pub levels : ℕ → ℕ → ℕ → Field
 levels height size most = field.Bytes height size 0 most
@@ -61,6 +66,11 @@ row_of expect.Challenge first = record { kind = kind.Challenge; payload = payloa
 row_of (expect.Sums sections) first = record { kind = kind.Sums; payload = payload.Elements (2 * sections) }
 row_of (expect.Openings count) first = record { kind = kind.Openings; payload = payload.Elements count }
 row_of expect.Verdict first = record { kind = kind.Verdict; payload = payload.Fields 1 (between 0 2) (any 4) }
+row_of expect.Want first = record { kind = kind.Want; payload = want_payload }
+row_of expect.Block first =
+    if nat_eq first 13
+    then record { kind = kind.Out; payload = one_field (any 20) }
+    else record { kind = kind.Block; payload = one_field (any 24) }
 
 -- ---- fields
 
@@ -68,11 +78,13 @@ row_of expect.Verdict first = record { kind = kind.Verdict; payload = payload.Fi
 abbrev pub width : Field → ℕ
 width (field.Bytes count size least most) = size * count
 width field.Element = 8
+width (field.Number least most) = 4
 
 -- how many bytes a payload has
 abbrev pub payload_length : Payload → ℕ
 payload_length (payload.Elements count) = 8 * count
 payload_length (payload.Fields times first second) = times * (width first + width second)
+payload_length (payload.Three first second third) = width first + width second + width third
 
 -- the bytes of a kind and of a length
 abbrev pub header : Row → List ℕ
@@ -87,6 +99,7 @@ repeat (suc times) fields = fields ++ repeat times fields
 abbrev pub payload_fields : Payload → List Field
 payload_fields (payload.Elements count) = repeat count (field.Element ∷ [])
 payload_fields (payload.Fields times first second) = repeat times (first ∷ second ∷ [])
+payload_fields (payload.Three first second third) = first ∷ second ∷ third ∷ []
 
 -- the bytes of a tree: those of its levels, and an element
 abbrev pub tree_fields : ℕ → ℕ → ℕ → List Field
@@ -111,10 +124,18 @@ pub record SpellElement (bytes : List ℕ) : Type 0 where
   pub is : IsElement element
   pub spelled : bytes ≡ element_bytes element
 
+-- the bytes of a number in a range
+pub record SpellNumber (least most : ℕ) (bytes : List ℕ) : Type 0 where
+  pub number : ℕ
+  pub at_least : least ≤ number
+  pub at_most : number ≤ most
+  pub spelled : bytes ≡ to_le_bytes w32 number
+
 -- bytes that a field allows
 abbrev pub FitsField : Field → List ℕ → Type 0
 FitsField (field.Bytes count size least most) bytes = AreWithin (size * count) least most bytes
 FitsField field.Element bytes = SpellElement bytes
+FitsField (field.Number least most) bytes = SpellNumber least most bytes
 
 -- bytes that fields allow, one field after another
 abbrev pub FitsFields : List Field → List ℕ → Type 0
@@ -130,21 +151,40 @@ free = slot.Range 0 255
 -- a field of bytes of any value
 abbrev pub IsFree : Field → Type 0
 IsFree (field.Bytes count size least most) = (least ≡ 0) × (most ≡ 255)
-IsFree field.Element = ⊥
+IsFree field = ⊥
 
 -- what may come at each byte of a field
 abbrev pub field_slots : Field → List Slot
 field_slots (field.Bytes count size least most) = replicate (size * count) (slot.Range least most)
 field_slots field.Element = replicate 7 free ++ slot.Last ∷ []
+field_slots (field.Number least most) = map (slot.Number least most) (0 ∷ 1 ∷ 2 ∷ 3 ∷ [])
 
 -- what may come at each byte of a frame
 abbrev pub frame_slots : Expect → ℕ → List Slot
 frame_slots place byte = flat_map field_slots (row_fields (row_of place byte))
 
--- a byte may come after others: it is in the range, or with the seven before it, where they are, spells an element
+-- how many numbers the bytes of one tell apart, up to the byte at a place
+abbrev pub number_size : ℕ → ℕ
+number_size zero = 2 ^ 8
+number_size (suc zero) = 2 ^ 16
+number_size (suc (suc zero)) = 2 ^ 24
+number_size (suc (suc (suc at))) = 2 ^ 32
+
+-- the least number from one on that has these low bytes
+abbrev pub next_with : ℕ → ℕ → ℕ → ℕ
+next_with least size low = least + (low + size - least % size) % size
+
+-- as many last bytes, or all
+abbrev pub last_bytes : ℕ → List ℕ → List ℕ
+last_bytes count bytes = drop (length bytes - count) bytes
+
+-- A byte may come after others: it is in the range; with the seven before it, where they are, it spells an element; or with as many
+-- before it it is the low bytes of a number in the range.
 abbrev pub May : Slot → List ℕ → ℕ → Type 0
 May (slot.Range least most) before byte = (least ≤ byte) × (byte ≤ most)
 May slot.Last before byte = (byte < 256) × (7 ≤ length before → IsElement (from_le_bytes w64 (drop (length before - 7) before ++ byte ∷ [])))
+May (slot.Number least most at) before byte =
+    (byte < 256) × (next_with least (number_size at) (from_le_bytes w32 (last_bytes at before ++ byte ∷ [])) ≤ most)
 
 -- a byte may come after others at a place
 abbrev pub MayFollow : Expect → List ℕ → ℕ → Type 0

@@ -5,6 +5,7 @@ ghost use Rattle.zk_model.specs.Bytes.{element_bytes};
 ghost use Rattle.zk_model.specs.Field.{IsElement};
 ghost use Rattle.zk_model.specs.Frames.{frame_spelling};
 ghost use Rattle.zk_model.specs.Transcript.{kind_number, frame_bytes, hello_frame, grant_frame, ask_frame, reply_frame, sums_frame, verdict_frame};
+ghost use Rattle.zk_model.specs.Messages.{want_frame, block_frame, out_frame};
 ghost use Rattle.proof_frames.specs.Frames.{frame_value, ask_bytes, reply_bytes, IsShort, IsRanged};
 ghost use Rattle.zk_model.specs.declared.limits.TheConstants.{MAX_PAYLOAD};
 
@@ -13,7 +14,7 @@ use crate::spelling::{Spelled, push_all};
 use mersenne_field::Fe;
 use std::alloc::{AllocError, Global};
 use tree_messages::{TreeAsk, TreeReply};
-use zk_model::{FrameKind, LONG_HELLO_LENGTH};
+use zk_model::{Block, FrameKind, LONG_HELLO_LENGTH, Out, Want};
 
 /// A frame of this kind whose payload will have so many bytes, without the payload.
 fn begin(alloc: Global, kind: FrameKind, length: usize) -> Result<Vec<u8>, AllocError>
@@ -184,6 +185,40 @@ pub fn encode_verdict(alloc: Global, code: u8, number: u32) -> Result<Vec<u8>, A
     framed(alloc, FrameKind::Verdict, &[code, n0, n1, n2, n3])
 }
 
+/// A node's want, as it is sent: a payload of 16 bytes.
+fn encode_want(alloc: Global, want: &Want) -> Result<Vec<u8>, AllocError>
+    ensures { IfOk result (λ bytes. bytes.items ≡ want_frame want.now) }
+{
+    let mut bytes = begin(alloc, FrameKind::Want, 16)?;
+    bytes.extend_from_slice(&want.node.to_le_bytes())?;
+    bytes.extend_from_slice(&want.number.to_le_bytes())?;
+    bytes.extend_from_slice(&want.count.to_le_bytes())?;
+    Ok(bytes)
+}
+
+/// A broker's block, as it is sent: a payload of 24 bytes.
+fn encode_block(alloc: Global, block: &Block) -> Result<Vec<u8>, AllocError>
+    ensures { IfOk result (λ bytes. bytes.items ≡ block_frame block.now) }
+{
+    let mut bytes = begin(alloc, FrameKind::Block, 24)?;
+    bytes.extend_from_slice(&block.node.to_le_bytes())?;
+    bytes.extend_from_slice(&block.number.to_le_bytes())?;
+    bytes.extend_from_slice(&block.start.to_le_bytes())?;
+    bytes.extend_from_slice(&block.count.to_le_bytes())?;
+    Ok(bytes)
+}
+
+/// That no units are left, as it is sent: a payload of 20 bytes.
+fn encode_out(alloc: Global, out: &Out) -> Result<Vec<u8>, AllocError>
+    ensures { IfOk result (λ bytes. bytes.items ≡ out_frame out.now) }
+{
+    let mut bytes = begin(alloc, FrameKind::Out, 20)?;
+    bytes.extend_from_slice(&out.node.to_le_bytes())?;
+    bytes.extend_from_slice(&out.number.to_le_bytes())?;
+    bytes.extend_from_slice(&out.at.to_le_bytes())?;
+    Ok(bytes)
+}
+
 /// A frame, as it is sent.
 ///
 /// # Errors
@@ -205,6 +240,9 @@ pub fn encode(alloc: Global, frame: &Frame) -> Result<Vec<u8>, AllocError>
         Frame::Openings(macs) => encode_elements(alloc, FrameKind::Openings, macs)?,
         Frame::Verdict { code, number } => encode_verdict(alloc, *code, *number)?,
         Frame::Refuse { code } => framed(alloc, FrameKind::Refuse, &[*code])?,
+        Frame::Want(want) => encode_want(alloc, want)?,
+        Frame::Block(block) => encode_block(alloc, block)?,
+        Frame::Out(out) => encode_out(alloc, out)?,
     };
     Ok(bytes)
 }

@@ -1,11 +1,11 @@
-// The frames of a session: a kind, the length of the payload, and the payload.
+// The frames of a session, and of an exchange with a broker of units: a kind, the length of the payload, and the payload.
 ghost use Rattle.std.specs.Prelude.{◌≡◌};
 ghost use Rattle.zk_model.specs.Transcript.{kind_number};
 
 use mersenne_field::Fe;
 use std::marker::Model;
 use tree_messages::{TreeAsk, TreeReply};
-use zk_model::FrameKind;
+use zk_model::{Block, FrameKind, Out, Want};
 
 /// The prover's greeting: the id of the dealt files, the digests (SHA-256 of FIPS 180-4) of the circuit's text and of the
 /// claimed outputs, the version, and in the long form the digest of the public bits.
@@ -82,6 +82,12 @@ pub enum Frame {
     Verdict { code: u8, number: u32 },
     /// What stands in place of a grant.
     Refuse { code: u8 },
+    /// A node asks a broker for units.
+    Want(Want),
+    /// A broker leases units to a node.
+    Block(Block),
+    /// What stands in place of a block.
+    Out(Out),
 }
 
 impl Frame {
@@ -102,6 +108,9 @@ impl Frame {
             Frame::Openings(_) => FrameKind::Openings,
             Frame::Verdict { .. } => FrameKind::Verdict,
             Frame::Refuse { .. } => FrameKind::Refuse,
+            Frame::Want(_) => FrameKind::Want,
+            Frame::Block(_) => FrameKind::Block,
+            Frame::Out(_) => FrameKind::Out,
         }
     }
 }
@@ -121,5 +130,8 @@ pub(crate) fn number_of(kind: FrameKind) -> u8
         FrameKind::Openings => 8,
         FrameKind::Verdict => 9,
         FrameKind::Refuse => 10,
+        FrameKind::Want => 11,
+        FrameKind::Block => 12,
+        FrameKind::Out => 13,
     }
 }

@@ -5,7 +5,7 @@ ghost use Rattle.zk_model.specs.Field.{IsElement};
 ghost use Rattle.zk_model.specs.Frames as model;
 ghost use Rattle.proof_frames.specs.Readings.{IsShortPlace};
 
-use crate::row::{Payload, Row, completed, told_at};
+use crate::row::{Payload, Row, completed, told_at, untold_length};
 use mersenne_field::Fe;
 use std::alloc::{AllocError, Global};
 use std::mem;
@@ -120,12 +120,10 @@ impl Held {
         requires { Holds place self.now }
         ensures { result ≡ model.frame_length place (bytes_of self.now) }
     {
-        let untold = self.start.len() <= told_at(place);
-        match place {
-            Expect::Hello if untold => 2,
-            Expect::Grant if untold => 1,
-            _ => self.row(place).length(),
+        if self.start.len() <= told_at(place) {
+            return untold_length(place);
         }
+        self.row(place).length()
     }
 
     /// Takes a byte of a payload of elements, unless it is the last of an element that is the prime or more.
@@ -214,8 +212,8 @@ impl Held {
         }
         let payload = self.row(place).payload;
         match payload {
-            Payload::Fields { .. } => self.take_free(place, payload, piece),
             Payload::Elements { .. } => take_elements(&mut self.elements, piece),
+            _ => self.take_free(place, payload, piece),
         }
     }
 

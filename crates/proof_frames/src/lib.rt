@@ -1,11 +1,12 @@
-//! The frames of a session, as bytes and back in pieces of any length. A frame is a byte that says its kind, the length of its
-//! payload in 4 bytes, and the payload. Numbers have their low byte first, and an element of
-//! the field has 8 bytes. The messages are those of Wolverine (Weng, Yang, Katz and Wang, IEEE S&P 2021) and QuickSilver (Yang,
-//! Sarkar, Weng and Wang, ACM CCS 2021); how they are spelled is this format's own.
+//! The frames of a session, and of an exchange with a broker of units, as bytes and back in pieces of any length. A frame is a
+//! byte that says its kind, the length of its payload in 4 bytes, and the payload. Numbers have their low byte first, and an
+//! element of the field has 8 bytes. The messages of a session are those of Wolverine (Weng, Yang, Katz and Wang, IEEE S&P 2021)
+//! and QuickSilver (Yang, Sarkar, Weng and Wang, ACM CCS 2021); how they are spelled is this format's own.
 //!
 //! `frame` has `Frame`, `Hello` and `Grant`, `encoding` has `encode` and encoders of single frames. `decoder` has `Decoder`; `row`
 //! has the kind and the fields of the frames at each place, `held` the bytes and elements of the frame under way, `rooms` the room
-//! for what is handed out, `whole` makes the frame of them, `spelling` has values as bytes and trees from them. `laws` says that bytes are one frame or have one first bad byte.
+//! for what is handed out, `whole` makes the frame of them, `spelling` has values as bytes and trees from them. `laws` says that
+//! bytes are one frame or have one first bad byte.
 //!
 //!     decoder.expect(Expect::Challenge)?;
 //!     let taken = decoder.feed(piece)?;       // or BadFrame { place, kind }
@@ -28,4 +29,4 @@ pub use encoding::{
     encode_verdict,
 };
 pub use frame::{Frame, Grant, Hello};
-pub use zk_model::{Expect, FrameKind};
+pub use zk_model::{Block, Expect, FrameKind, Out, Want};

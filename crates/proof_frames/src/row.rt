@@ -1,16 +1,18 @@
 // The rows of frames: for each place the kind and the fields of the frames that it allows.
 ghost use Rattle.std.specs.Prelude.{◌≡◌, ◌↔◌, ℕ, ◌+◌, ◌-◌, ◌*◌, ◌<◌, ◌≤◌, ◌++◌, ◌∷◌, [], length, drop, get_or, IsTrue, IfSome, IfNone, ◌≢◌};
-ghost use Rattle.std.specs.Int.{w64, from_le_bytes};
+ghost use Rattle.std.specs.Int.{w32, w64, from_le_bytes};
 ghost use Rattle.zk_model.specs.Field.{IsElement};
+ghost use Rattle.zk_model.specs.Frames.{frame_length};
 ghost use Rattle.zk_model.specs.declared.limits.TheConstants.{MAX_PAYLOAD};
 ghost use Rattle.proof_frames.specs.Readings.{IsShortPlace};
-ghost use Rattle.proof_frames.specs.Rows.{told_at};
+ghost use Rattle.proof_frames.specs.Rows.{told_at, next_with, number_size, last_bytes};
 
 use crate::frame::number_of;
 use mersenne_field::Fe;
-use zk_model::{Expect, FrameKind};
+use zk_model::{Expect, FrameKind, MAX_NODES, MAX_UNITS};
 
-/// What stands in a payload: so many times so many bytes, each in a range; or an element, low byte first.
+/// What stands in a payload: so many times so many bytes, each in a range; an element; or a number of 32 bits in a range. Elements
+/// and numbers have their low byte first.
 #[derive(Clone, Copy, Debug, PartialEq, Eq)]
 pub(crate) enum Field {
     Bytes {
@@ -20,6 +22,10 @@ pub(crate) enum Field {
         most: u8,
     },
     Element,
+    Number {
+        least: u32,
+        most: u32,
+    },
 }
 
 /// What stands after a frame's header.
@@ -35,6 +41,12 @@ pub(crate) enum Payload {
         first: Field,
         second: Field,
     },
+    /// Three fields.
+    Three {
+        first: Field,
+        second: Field,
+        third: Field,
+    },
 }
 
 /// The kind of a frame, and what stands after its header.
@@ -44,11 +56,13 @@ pub(crate) struct Row {
     pub(crate) payload: Payload,
 }
 
-/// What may come at one byte of a frame: a byte in a range, or the last byte of an element.
+/// What may come at one byte of a frame: a byte in a range; the last byte of an element; or, after so many bytes of it, a byte
+/// of a number in a range.
 #[derive(Clone, Copy, Debug, PartialEq, Eq)]
 pub(crate) enum Slot {
     Range { least: u8, most: u8 },
     Last,
+    Number { least: u32, most: u32, at: usize },
 }
 
 /// The place of the byte that tells the row of a frame.
@@ -58,6 +72,18 @@ pub(crate) fn told_at(place: Expect) -> usize
     match place {
         Expect::Hello => 1,
         _ => 0,
+    }
+}
+
+/// How many bytes of the frame at a place are wanted before the byte that tells its row is there.
+pub(crate) fn untold_length(place: Expect) -> usize
+    requires { IsShortPlace place }
+    ensures { result ≡ frame_length place [] }
+{
+    match place {
+        Expect::Hello => 2,
+        Expect::Grant | Expect::Block => 1,
+        _ => Row::at(place, 0).length(),
     }
 }
 
@@ -84,6 +110,44 @@ fn ends_element(bytes: &[u8], last: u8) -> bool
     }
 }
 
+/// The number of which these are the low bytes, and one more.
+fn low_number(bytes: &[u8], last: u8) -> u32
+    ensures { result ≡ from_le_bytes w32 (bytes.now ++ last ∷ []) }
+{
+    let word = match bytes {
+        [] => [last, 0, 0, 0],
+        [b0] => [*b0, last, 0, 0],
+        [b0, b1] => [*b0, *b1, last, 0],
+        [b0, b1, b2] => [*b0, *b1, *b2, last],
+        [b0, b1, b2, b3, ..] => [*b0, *b1, *b2, *b3],
+    };
+    u32::from_le_bytes(word)
+}
+
+/// How many numbers the bytes of one tell apart, up to the byte at a place.
+fn number_size(at: usize) -> u64
+    ensures { result ≡ number_size at }
+{
+    match at {
+        0 => 1 << 8,
+        1 => 1 << 16,
+        2 => 1 << 24,
+        _ => 1 << 32,
+    }
+}
+
+/// Whether a number of the range has as many last bytes, and one more, as its low bytes.
+fn goes_on_to_number(least: u32, most: u32, at: usize, bytes: &[u8], last: u8) -> bool
+    ensures { IsTrue result ↔ next_with least (number_size at)
+        (from_le_bytes w32 (last_bytes at bytes.now ++ last ∷ [])) ≤ most }
+{
+    let from = bytes.len().saturating_sub(at);
+    let low = u64::from(low_number(&bytes[from..], last));
+    let size = number_size(at);
+    let least = u64::from(least);
+    least + (low + size - least % size) % size <= u64::from(most)
+}
+
 impl Slot {
     ghost use Rattle.proof_frames.specs.Rows.{May};
 
@@ -94,6 +158,7 @@ impl Slot {
         match self {
             Slot::Range { least, most } => least <= byte && byte <= most,
             Slot::Last => before.len() < 7 || ends_element(before, byte),
+            Slot::Number { least, most, at } => goes_on_to_number(least, most, at, before, byte),
         }
     }
 }
@@ -136,6 +201,7 @@ impl Field {
         match self {
             Field::Bytes { count, size, .. } => size * count,
             Field::Element => 8,
+            Field::Number { .. } => 4,
         }
     }
 
@@ -145,7 +211,7 @@ impl Field {
     {
         match self {
             Field::Bytes { least, most, .. } => least == 0 && most == 255,
-            Field::Element => false,
+            Field::Element | Field::Number { .. } => false,
         }
     }
 
@@ -161,13 +227,14 @@ impl Field {
                 least: 0,
                 most: 255,
             },
+            Field::Number { least, most } => Slot::Number { least, most, at },
         }
     }
 }
 
 impl Payload {
     ghost use Rattle.std.specs.Prelude.{flat_map};
-    ghost use Rattle.proof_frames.specs.Rows.{one_field, free, width, field_slots, payload_fields, payload_length};
+    ghost use Rattle.proof_frames.specs.Rows.{one_field, want_payload, free, width, field_slots, payload_fields, payload_length};
     ghost use Rattle.proof_frames.specs.declared.row.Field.TheVariants as field;
     ghost use Rattle.proof_frames.specs.declared.row.Payload.TheVariants as payload;
 
@@ -196,6 +263,23 @@ impl Payload {
         Payload::fields(trees, Field::bytes(height, size, 0, most), Field::Element)
     }
 
+    /// A node, any number of 64 bits, and a count of units.
+    fn want() -> Self
+        ensures { result ≡ want_payload }
+    {
+        Payload::Three {
+            first: Field::Number {
+                least: 0,
+                most: MAX_NODES - 1,
+            },
+            second: Field::any(8),
+            third: Field::Number {
+                least: 1,
+                most: MAX_UNITS as u32,
+            },
+        }
+    }
+
     /// How many bytes it has.
     fn length(self) -> usize
         requires { payload_length self ≤ MAX_PAYLOAD }
@@ -209,6 +293,11 @@ impl Payload {
                 first,
                 second,
             } => times * (first.width() + second.width()),
+            Payload::Three {
+                first,
+                second,
+                third,
+            } => first.width() + second.width() + third.width(),
         }
     }
 
@@ -227,6 +316,23 @@ impl Payload {
                     first.slot(at)
                 } else {
                     second.slot(at - width)
+                }
+            }
+            Payload::Three {
+                first,
+                second,
+                third,
+            } => {
+                let width = first.width();
+                if at < width {
+                    return first.slot(at);
+                }
+                let behind = at - width;
+                let width = second.width();
+                if behind < width {
+                    second.slot(behind)
+                } else {
+                    third.slot(behind - width)
                 }
             }
         }
@@ -289,6 +395,9 @@ impl Row {
                 let payload = Payload::fields(1, Field::between(0, 2), Field::any(4));
                 (FrameKind::Verdict, payload)
             }
+            Expect::Want => (FrameKind::Want, Payload::want()),
+            Expect::Block if byte == 13 => (FrameKind::Out, Payload::one_field(Field::any(20))),
+            Expect::Block => (FrameKind::Block, Payload::one_field(Field::any(24))),
         };
         Row { kind, payload }
     }
@@ -308,7 +417,7 @@ impl Row {
     {
         match self.payload {
             Payload::Elements { .. } => 5,
-            Payload::Fields { .. } => self.length(),
+            _ => self.length(),
         }
     }
 
@@ -318,7 +427,7 @@ impl Row {
     {
         match self.payload {
             Payload::Elements { count } => count,
-            Payload::Fields { .. } => 0,
+            _ => 0,
         }
     }
 

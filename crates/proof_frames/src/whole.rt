@@ -1,7 +1,7 @@
 // Frames from the bytes that are held.
 ghost use Rattle.std.specs.Prelude.{◌≡◌, ℕ, ◌*◌, ◌≤◌, ◌<◌, length, vec_capacity, []};
 ghost use Rattle.zk_model.specs.Frames as model;
-ghost use Rattle.proof_frames.specs.Frames.{frame_value, flattened, digest_in, hello_in, grant_or_refusal_in, verdict_in};
+ghost use Rattle.proof_frames.specs.Frames.{frame_value, flattened, digest_in, hello_in, grant_or_refusal_in, verdict_in, want_in, block_or_out_in};
 ghost use Rattle.proof_frames.specs.Holding.{bytes_of, Holds};
 ghost use Rattle.proof_frames.specs.Rooms.{HasRooms};
 ghost use Rattle.proof_frames.specs.Rows.{row_of, payload_length};
@@ -13,7 +13,7 @@ use crate::spelling::{array, trees_of};
 use mersenne_field::Fe;
 use std::alloc::Global;
 use std::mem;
-use zk_model::Expect;
+use zk_model::{Block, Expect, Out, Want};
 
 /// The digest of public bits, if all of it is there.
 fn digest_of(bytes: &[u8]) -> Option<[u8; 32]>
@@ -75,6 +75,42 @@ fn verdict_of(payload: &[u8]) -> Frame
     }
 }
 
+/// The want that a payload says.
+fn want_of(payload: &[u8]) -> Want
+    requires { length payload.now ≡ 16 }
+    ensures { result ≡ want_in payload.now }
+{
+    let (node, rest) = payload.split_at(4);
+    let (number, count) = rest.split_at(8);
+    Want {
+        node: u32::from_le_bytes(array(node)),
+        number: u64::from_le_bytes(array(number)),
+        count: u32::from_le_bytes(array(count)),
+    }
+}
+
+/// The block that a payload says, or after an out's kind the out.
+fn block_or_out_of(kind: u8, payload: &[u8]) -> Frame
+    requires { length payload.now ≡ payload_length (row_of Expect.Block kind).payload }
+    ensures { frame_value result ≡ block_or_out_in kind payload.now }
+{
+    let (node, rest) = payload.split_at(4);
+    let (number, rest) = rest.split_at(8);
+    let node = u32::from_le_bytes(array(node));
+    let number = u64::from_le_bytes(array(number));
+    if kind == 13 {
+        let at = u64::from_le_bytes(array(rest));
+        return Frame::Out(Out { node, number, at });
+    }
+    let (start, count) = rest.split_at(8);
+    Frame::Block(Block {
+        node,
+        number,
+        start: u64::from_le_bytes(array(start)),
+        count: u32::from_le_bytes(array(count)),
+    })
+}
+
 /// Elements two by two, in the room that there is for the pairs.
 fn pairs_of(alloc: Global, elements: &[Fe], pairs: &mut Vec<(Fe, Fe)>) -> Vec<(Fe, Fe)>
     requires empty { pairs.old.items ≡ [] }
@@ -113,5 +149,7 @@ pub(crate) fn whole_frame(alloc: Global, place: Expect, held: &mut Held, rooms: 
         Expect::Sums { .. } => Frame::Sums(pairs_of(alloc, &held.elements, &mut rooms.pairs)),
         Expect::Openings { .. } => Frame::Openings(held.give_elements(alloc)),
         Expect::Verdict => verdict_of(held.payload()),
+        Expect::Want => Frame::Want(want_of(held.payload())),
+        Expect::Block => block_or_out_of(held.start[0], held.payload()),
     }
 }

@@ -243,6 +243,7 @@ longest_short places.Hello short = omega arith
 longest_short places.Grant short = omega arith
 longest_short places.Challenge short = omega arith
 longest_short places.Verdict short = omega arith
+longest_short places.Block short = omega arith
 longest_short other short = short
 
 frame_short : (place : Expect) (bytes : List ℕ) (frame : Frame) → IsShortPlace place → IsWhole place bytes frame → length bytes ≤ 2 ^ 28 + 5

@@ -2,11 +2,15 @@
 use Rattle.std.specs.Prelude.{◌≡◌, ◌⊎◌, None, ℕ, ◌+◌, ◌*◌, ◌-◌, ◌^◌, ◌<◌, ◌≤◌, if◌then◌else◌, nat_eq, List, [], ◌∷◌, length, take, All}
 use Rattle.zk_model.specs.Field.{IsElement}
 use Rattle.zk_model.specs.Transcript.{Hello, Grant, TreeAsk, TreeReply, IsHello, IsTreeAsk, IsTreeReply, BeginsWith, hello_frame, grant_frame, ask_frame, reply_frame, corrections_frame, challenge_frame, sums_frame, openings_frame, verdict_frame, refuse_frame}
+use Rattle.zk_model.specs.Messages.{want_frame, block_frame, out_frame, FitsWant, FitsBlock, FitsOut}
 use Rattle.zk_model.specs.declared.Expect.{Expect}
 use Rattle.zk_model.specs.declared.Expect.TheVariants as expect
 use Rattle.zk_model.specs.declared.FrameKind.{FrameKind}
 use Rattle.zk_model.specs.declared.FrameKind.TheVariants as kind
 use Rattle.zk_model.specs.declared.limits.TheConstants.{HELLO_LENGTH, LONG_HELLO_LENGTH}
+use Rattle.zk_model.specs.declared.messages.Block.{Block}
+use Rattle.zk_model.specs.declared.messages.Out.{Out}
+use Rattle.zk_model.specs.declared.messages.Want.{Want}
 
 -- ---- frames as values
 
@@ -22,6 +26,9 @@ pub data Frame : Type 0 where
   openings : List ℕ → Frame
   verdict : ℕ → ℕ → Frame
   refuse : ℕ → Frame
+  want : Want → Frame
+  block : Block → Frame
+  out : Out → Frame
 
 -- the bytes of a frame
 abbrev pub frame_spelling : Frame → List ℕ
@@ -35,6 +42,9 @@ frame_spelling (sums both) = sums_frame both
 frame_spelling (openings macs) = openings_frame macs
 frame_spelling (verdict code number) = verdict_frame code number
 frame_spelling (refuse code) = refuse_frame code
+frame_spelling (want said) = want_frame said
+frame_spelling (block given) = block_frame given
+frame_spelling (out said) = out_frame said
 
 -- ---- what may come at a place
 
@@ -75,7 +85,8 @@ pub record FitsRefusal (code : ℕ) : Type 0 where
   pub most : code ≤ 4
 
 -- The frames that a place allows: a greeting whatever it names, or one without a digest of public bits; a grant of any numbers or a
--- refusal in its place; asks or replies for so many trees of one height; so many elements; a verdict.
+-- refusal in its place; asks or replies for so many trees of one height; so many elements; a verdict; a want of a node; and a block of any
+-- numbers, or in its place that no units are left.
 abbrev pub Allows : Expect → Frame → Type 0
 Allows expect.Hello frame = (said : Hello) × (frame ≡ hello said) × IsHello said
 Allows expect.ShortHello frame = (said : Hello) × (frame ≡ hello said) × IsHello said × (said.public ≡ None)
@@ -91,6 +102,10 @@ Allows expect.Challenge frame = (element : ℕ) × (frame ≡ challenge element)
 Allows (expect.Sums sections) frame = (both : List (ℕ × ℕ)) × (frame ≡ sums both) × AreSums sections both
 Allows (expect.Openings count) frame = (macs : List ℕ) × (frame ≡ openings macs) × AreElements count macs
 Allows expect.Verdict frame = (code : ℕ) × (number : ℕ) × (frame ≡ verdict code number) × FitsVerdict code number
+Allows expect.Want frame = (said : Want) × (frame ≡ want said) × FitsWant said
+Allows expect.Block frame =
+    ((given : Block) × (frame ≡ block given) × FitsBlock given)
+    ⊎ ((said : Out) × (frame ≡ out said) × FitsOut said)
 
 -- ---- bytes at a place
 
@@ -116,7 +131,8 @@ abbrev pub elements_length : ℕ → ℕ
 elements_length count = 5 + 8 * count
 
 -- The length of the frame that begins with these bytes. Where the place allows two lengths, one byte decides between them: of a
--- hello the first of the length, 97 or 129, and in a grant's place the kind. Without it the frame is taken to end there.
+-- hello the first of the length, 97 or 129, and in the place of a grant or of a block the kind. Without it the frame is taken to end
+-- there.
 abbrev pub frame_length : Expect → List ℕ → ℕ
 frame_length expect.Hello [] = 2
 frame_length expect.Hello (first ∷ []) = 2
@@ -131,12 +147,16 @@ frame_length expect.Challenge bytes = elements_length 1
 frame_length (expect.Sums sections) bytes = elements_length (2 * sections)
 frame_length (expect.Openings count) bytes = elements_length count
 frame_length expect.Verdict bytes = 10
+frame_length expect.Want bytes = 21
+frame_length expect.Block [] = 1
+frame_length expect.Block (first ∷ bytes) = if nat_eq first 13 then 25 else 29
 
 -- how many bytes are still wanted after these
 abbrev pub bytes_wanted : Expect → List ℕ → ℕ
 bytes_wanted place bytes = frame_length place bytes - length bytes
 
--- the kind of frame that is expected after these bytes: in a grant's place a refusal where they begin one
+-- the kind of frame that is expected after these bytes: in a grant's place a refusal where they begin one, and in a block's place that
+-- no units are left
 abbrev pub expected_kind : Expect → List ℕ → FrameKind
 expected_kind expect.Hello bytes = kind.Hello
 expected_kind expect.ShortHello bytes = kind.Hello
@@ -149,3 +169,6 @@ expected_kind expect.Challenge bytes = kind.Challenge
 expected_kind (expect.Sums sections) bytes = kind.Sums
 expected_kind (expect.Openings count) bytes = kind.Openings
 expected_kind expect.Verdict bytes = kind.Verdict
+expected_kind expect.Want bytes = kind.Want
+expected_kind expect.Block [] = kind.Block
+expected_kind expect.Block (first ∷ bytes) = if nat_eq first 13 then kind.Out else kind.Block

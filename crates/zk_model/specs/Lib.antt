@@ -25,6 +25,7 @@ pub mod Statement
 pub mod Files
 pub mod FileBytes
 pub mod Transcript
+pub mod Messages
 pub mod Frames
 pub mod Correlations
 pub mod Replies

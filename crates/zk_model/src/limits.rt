@@ -65,3 +65,6 @@ pub const MAX_CEILING_SLOTS: u64 = 4096;
 
 /// Passes of a store of leases.
 pub const MAX_PASSES: u32 = 1024;
+
+/// Nodes that share a verifier's file.
+pub const MAX_NODES: u32 = 1024;

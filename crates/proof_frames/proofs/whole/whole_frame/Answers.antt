@@ -8,14 +8,14 @@ use Rattle.zk_model.specs.Transcript.{frame_bytes}
 use Rattle.zk_model.specs.declared.FrameKind.TheVariants as kind
 use Rattle.zk_model.specs.declared.Expect.{Expect}
 use Rattle.zk_model.specs.declared.Expect.TheVariants as expect
-use Rattle.proof_frames.specs.Frames.{flattened, grant_or_refusal_in}
+use Rattle.proof_frames.specs.Frames.{flattened, grant_or_refusal_in, block_or_out_in}
 use Rattle.proof_frames.specs.declared.rooms.Rooms.{Rooms}
 use Rattle.proof_frames.specs.Rooms.{HasRooms}
 use Rattle.proof_frames.specs.Rows.{row_of}
 use Rattle.proof_frames.proofs.Fields.{one_item}
 use Rattle.proof_frames.proofs.Finished.{HoldsWhole, raw_payload, raw_finished, list_finished, elements_held}
 use Rattle.proof_frames.proofs.Sums.{flattened_bytes}
-use Rattle.proof_frames.proofs.Words.{Says, hello_said, short_hello_said, grant_said, verdict_said, are_sums}
+use Rattle.proof_frames.proofs.Words.{Says, hello_said, short_hello_said, grant_said, verdict_said, want_said, block_said, are_sums}
 use Rattle.proof_frames.proofs.whole.whole_frame.Goals.{Start}
 use Rattle.proof_frames.proofs.whole.whole_frame.Goals as goal
 
@@ -46,6 +46,20 @@ pub returns-in-Verdict : goal.returns-in-Verdict
 returns-in-Verdict c =
     raw_finished c.args.place expect.Verdict c.args.held.now c.payload-in-Verdict.result.now _ c.in-Verdict.is refl (done (goal.at.returns-in-Verdict c).Start)
     c.payload-in-Verdict.ensures (λ has. rw c.verdict_of.ensures (verdict_said _ has.fits))
+
+pub returns-in-Want : goal.returns-in-Want
+returns-in-Want c =
+    raw_finished c.args.place expect.Want c.args.held.now c.payload-in-Want.result.now _ c.in-Want.is refl (done (goal.at.returns-in-Want c).Start)
+    c.payload-in-Want.ensures (λ has. rw c.want_of.ensures (want_said _ has.fits))
+
+pub returns-in-Block : goal.returns-in-Block
+returns-in-Block c =
+    let start : List ℕ = c.args.held.now.start.items in
+    let bytes : List ℕ = c.payload-in-Block.result.now in
+    raw_finished c.args.place expect.Block c.args.held.now bytes _ c.in-Block.is refl (done (goal.at.returns-in-Block c).Start) c.payload-in-Block.ensures (λ has.
+    let first : c.index-in-Block.result.now ≡ get_or start 0 0 = c.index-in-Block.ensures ∙ get_or_default start 0 c.index-in-Block.result.now 0 (let headed = has.headed in omega arith) in
+    rw c.block_or_out_of.ensures (subst (λ (kind : ℕ). Says expect.Block (row_of expect.Block (get_or start 0 0)) bytes (block_or_out_in kind bytes)) (sym first)
+    (block_said (get_or start 0 0) bytes has.fits)))
 
 -- the room for what is handed out
 rooms_at : (place stage : Expect) (rooms : Rooms) → place ≡ stage → HasRooms place rooms → HasRooms stage rooms

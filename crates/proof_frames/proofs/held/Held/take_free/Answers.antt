@@ -1,13 +1,32 @@
 use Rattle.std.proofs.Common.{rules, ◌≡◌, ◌+◌, ◌-◌, ◌≤◌, List, ℕ, ◌++◌, length, get_or, sym, ap, ◌∙◌, arith, append_assoc, subst, take-append-drop}
 use Rattle.std.specs.Prelude.{All}
+use Rattle.std.proofs.lemmas.Bool.{false≢true}
 use Rattle.std.proofs.lemmas.List.Elements.{All-from_get_or, All-take}
 use Rattle.zk_model.specs.Frames.{frame_length}
-use Rattle.proof_frames.specs.Holding.{bytes_of}
+use Rattle.proof_frames.specs.Holding.{bytes_of, is_list}
 use Rattle.proof_frames.specs.Rows.{free, payload_fields}
 use Rattle.proof_frames.proofs.Fields.{slots}
-use Rattle.proof_frames.proofs.Kept.{raw_run}
+use Rattle.proof_frames.proofs.Kept.{raw_room, raw_run, run_left}
+use Rattle.proof_frames.proofs.EveryRow.{same_list}
+use Rattle.proof_frames.proofs.Lengths.{short_row}
 use Rattle.proof_frames.proofs.Octets.{IsByte}
 use Rattle.proof_frames.proofs.held.Held.take_free.Goals as goal
+
+pub free_run-requires-clause-short : goal.free_run-requires-clause-short
+free_run-requires-clause-short c = rw c.requires.payload (short_row c.args.place _ c.requires.holds.short)
+
+pub free_run-requires-clause-within : goal.free_run-requires-clause-within
+free_run-requires-clause-within c =
+    let old = c.args.self.now in
+    let left = run_left c.args.place old c.args.piece.now (omega (arith, old.start.ok.0)) c.requires.within in
+    rw c.requires.payload (omega (arith, left, old.start.ok.0))
+
+pub push_bytes-requires : goal.push_bytes-requires
+push_bytes-requires c =
+    let old = c.args.self.now in
+    let raw = sym c.requires.raw ∙ ap is_list c.requires.payload ∙ same_list c.args.place _ in
+    let room = raw_room c.args.place old c.args.piece.now c.requires.holds (λ list. absurd (false≢true (raw ∙ list))) c.requires.within in
+    omega (arith, room, old.start.ok.0, c.split_at.ensures.front_len, c.min-run.ensures)
 
 pub returns : goal.returns
 returns c =

@@ -1,7 +1,7 @@
-use Rattle.std.proofs.Common.{refl, sym, ◌∙◌, arith}
+use Rattle.std.proofs.Common.{[], ◌∷◌, refl, sym, ◌∙◌, arith}
 use Rattle.std.proofs.lemmas.Bool.{false≢true}
 use Rattle.proof_frames.specs.Holding.{is_list, longest}
-use Rattle.proof_frames.proofs.Kept.{steps, raw_follows, raw_step, raw_ends}
+use Rattle.proof_frames.proofs.Kept.{steps, raw_follows, raw_step, raw_ends, raw_room}
 use Rattle.proof_frames.proofs.held.Held.take_raw_byte.Goals as goal
 
 pub returns-then-not-allows : goal.returns-then-not-allows
@@ -14,6 +14,13 @@ returns-then-not-allows c =
           (λ list. let early = c.requires.raw list in omega (arith, early, old.start.ok.0))
           (λ follows. false≢true (sym c.if-not-allows.true ∙ c.allows.ensures.1 (same.1 follows))),
     )
+
+pub push_reserved-requires : goal.push_reserved-requires
+push_reserved-requires c =
+    let old = c.args.self.now in
+    let early = c.requires.raw in
+    let room = raw_room c.args.place old (c.args.byte ∷ []) c.requires.holds (λ list. let few = early list in omega (arith, few, old.start.ok.0)) c.requires.within in
+    omega (arith, room, old.start.ok.0)
 
 pub returns : goal.returns
 returns c =

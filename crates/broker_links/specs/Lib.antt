@@ -1,0 +1,4 @@
+pub mod Replies
+pub mod Counts
+pub mod Tries
+pub mod Answers
