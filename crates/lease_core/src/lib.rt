@@ -7,6 +7,7 @@
 
 mod event;
 mod lists;
+mod reading;
 mod running;
 mod sharing;
 mod state;

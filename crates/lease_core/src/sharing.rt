@@ -10,7 +10,7 @@ use zk_model::{MAX_UNITS, Span};
 
 impl State {
     /// An era begins at the durable ceiling.
-    pub(crate) fn begin(&mut self) -> bool
+    pub fn begin(&mut self) -> bool
         ensures { IsTaken self.old Event.Begin result self.new }
     {
         if self.up {

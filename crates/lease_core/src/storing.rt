@@ -90,7 +90,7 @@ impl State {
     }
 
     /// The store stops. The slot of a put whose gate is written and not synced counts where the gate is open.
-    pub(crate) fn crash(&mut self, gate: u8) -> Result<bool, AllocError>
+    pub fn crash(&mut self, gate: u8) -> Result<bool, AllocError>
         ensures taken { IfOk result (λ b. IsCrash self.old gate b self.new) }
         ensures refused { OnErr result (self.new ≡ self.old) }
     {

@@ -1,6 +1,7 @@
 // The calls that threads make.
 ghost use Rattle.std.specs.Prelude.{◌≡◌, ◌≢◌, ◌≤◌, IfOk};
-ghost use Rattle.lease_words.specs.Calls.{known_of, mark_of, seen, words_id};
+ghost use Rattle.lease_words.specs.Calls.{RisesFrom, known_of, mark_of, seen, words_id};
+ghost use Rattle.lease_words.specs.Views.{after_draw};
 ghost use Rattle.lease_store.specs.Ceilings.{NeverFails};
 ghost use Rattle.lease_store.specs.Leases.{PassGoesOn, IsJournals, IsPassAt, Leased, Tried, Watched};
 ghost use Rattle.lease_store.specs.Stops.{WasStored};
@@ -18,8 +19,9 @@ use zk_model::Span;
 use zk_port::Disk;
 
 impl<B: Disk, N: LeaseName> LeaseStore<B, N> {
-    /// Leases the next `count` units, 1 to 4,096. It draws, looks at the ceiling, and where this is too low has it raised,
-    /// which waits for the lock and for the journal. Units that were drawn and are not leased are burnt.
+    /// Leases the next `count` units, 1 to 4,096. It draws. Where the ceiling that the pass knows is too low, it looks, and
+    /// where that is too low still, has it raised, which waits for the lock and for the journal. Units that were drawn and
+    /// are not leased are burnt.
     ///
     /// # Errors
     ///
@@ -31,6 +33,9 @@ impl<B: Disk, N: LeaseName> LeaseStore<B, N> {
         ensures own { IsPassAt N.table N.total pass.new }
         ensures goes { PassGoesOn pass.old pass.new }
         ensures leased { Leased pass.old count result pass.new }
+        ensures unlooked { IfOk result (λ span. span.end ≤ known_of pass.old
+            → seen pass.new ≡ after_draw (seen pass.old) span.start count) }
+        ensures rises { RisesFrom pass.old pass.new }
         ensures stored { IfOk result (λ span. WasStored B.state span.end) }
         ensures never { NeverFails B.state → IsJournals result → ⊥ }
     {
@@ -40,6 +45,9 @@ impl<B: Disk, N: LeaseName> LeaseStore<B, N> {
                 return Err(LeaseFault::Exhausted { at, count, total });
             }
         };
+        if pass.known() >= span.end {
+            return Ok(span);
+        }
         if self.words.look(pass) >= span.end {
             return Ok(span);
         }

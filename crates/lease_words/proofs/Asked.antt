@@ -9,8 +9,8 @@ use Rattle.atomic_table.specs.Table.{State, Me, step, carried_after, Allows, Spl
 use Rattle.lease_core.specs.Machine.{ceiling_for}
 use Rattle.lease_words.specs.Views.{entry_overshoots, units_drawn, IsPassView, first_view, spent_view, receipt_of, after_receipt, after_make, new_pass, after_join}
 use Rattle.lease_words.specs.Rule.{Fits, AreWordsKept}
-use Rattle.lease_words.specs.Steps.{Draws, Raises, Marks, FindsMark}
-use Rattle.lease_words.specs.Stored.{StoredRule, LooksStored}
+use Rattle.lease_words.specs.Steps.{Raises, Marks, FindsMark}
+use Rattle.lease_words.specs.Stored.{StoredRule, DrawsStored, LooksStored}
 use Rattle.lease_words.specs.Asked.{AreDrawn, IsAskedFor, AskedRule}
 use Rattle.lease_words.specs.Calls.{seen, all_entries}
 use Rattle.lease_words.specs.declared.pass.Pass.{Pass}
@@ -74,14 +74,14 @@ module _ {K : Type 0} (label : K → List ℕ) (stores : K → ℕ → Type 0) w
       }
 
   pub draw_asked : (key : Key) (slots id : ℕ) (me : Seen) (count : ℕ) → IsPassView me.0 → entry_overshoots me.0.total me.0.entries ≡ 0 → 0 < count → count ≤ 4096
-      → Allows (AskedRule label stores key) slots id me 0 (λ n. (n + count) % 2 ^ 64) (Draws (step slots 0 count 0 none) me)
+      → Allows (AskedRule label stores key) slots id me 0 (λ n. (n + count) % 2 ^ 64) (DrawsStored stores (step slots 0 count 0 none) me)
   draw_asked key slots id me count pass none_over some_count few =
-      lifted key slots id me 0 (λ n. (n + count) % 2 ^ 64) (Draws (step slots 0 count 0 none) me)
+      lifted key slots id me 0 (λ n. (n + count) % 2 ^ 64) (DrawsStored stores (step slots 0 count 0 none) me)
       (λ s now r at t.
       let n : ℕ = get_or s.words 0 0 in
       let three = r.0.0.0 in
-      let small = t.1 in
-      let drawn : now.0.drawn ≡ n + count = ap (λ (m : Seen). m.0.drawn) t.0 in
+      let small = t.0.1 in
+      let drawn : now.0.drawn ≡ n + count = ap (λ (m : Seen). m.0.drawn) t.0.0 in
       let next_is = get_or-set_same s.words 0 ((n + count) % 2 ^ 64) 0 (omega (arith, three)) in
       let shown_is = get_or-set_other s.words 0 1 ((n + count) % 2 ^ 64) 0 (λ h. omega arith) in
       let grows : n ≤ (n + count) % 2 ^ 64 = omega arith in

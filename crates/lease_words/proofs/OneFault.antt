@@ -8,8 +8,8 @@ use Rattle.atomic_table.specs.Table.{State, Me, step, Allows, Splits, Joins}
 use Rattle.lease_core.specs.Machine.{ceiling_for}
 use Rattle.lease_words.specs.Views.{entry_overshoots, IsPassView, spent_view, receipt_of, after_receipt, after_telling, word_of, after_told, after_make, new_pass, after_join}
 use Rattle.lease_words.specs.Rule.{Fits}
-use Rattle.lease_words.specs.Steps.{Draws, Raises, Marks, FindsMark}
-use Rattle.lease_words.specs.Stored.{LooksStored}
+use Rattle.lease_words.specs.Steps.{Raises, Marks, FindsMark}
+use Rattle.lease_words.specs.Stored.{DrawsStored, LooksStored}
 use Rattle.lease_words.specs.Asked.{AskedRule}
 use Rattle.lease_words.specs.OneFault.{IsMetOnce, MetRule}
 use Rattle.lease_words.specs.declared.view.Key.{Key}
@@ -55,10 +55,10 @@ module _ {K : Type 0} (label : K → List ℕ) (stores : K → ℕ → Type 0) w
       )
 
   pub draw_met : (key : Key) (slots id : ℕ) (me : Seen) (count : ℕ) → IsPassView me.0 → entry_overshoots me.0.total me.0.entries ≡ 0 → 0 < count → count ≤ 4096
-      → Allows (MetRule label stores key) slots id me 0 (λ n. (n + count) % 2 ^ 64) (Draws (step slots 0 count 0 none) me)
+      → Allows (MetRule label stores key) slots id me 0 (λ n. (n + count) % 2 ^ 64) (DrawsStored stores (step slots 0 count 0 none) me)
   draw_met key slots id me count pass none_over some_count few =
-      lifted key slots id me 0 (λ n. (n + count) % 2 ^ 64) (Draws (step slots 0 count 0 none) me)
-      (λ s r. get_or-set_other s.words 0 2 ((get_or s.words 0 0 + count) % 2 ^ 64) 0 (λ h. omega (arith, h))) (λ n now t. ap (λ (m : Seen). m.0.met) t.0)
+      lifted key slots id me 0 (λ n. (n + count) % 2 ^ 64) (DrawsStored stores (step slots 0 count 0 none) me)
+      (λ s r. get_or-set_other s.words 0 2 ((get_or s.words 0 0 + count) % 2 ^ 64) 0 (λ h. omega (arith, h))) (λ n now t. ap (λ (m : Seen). m.0.met) t.0.0)
       (draw_asked label stores key slots id me count pass none_over some_count few)
 
   pub look_met : (key : Key) (slots id : ℕ) (me : Seen) → IsPassView me.0 → Allows (MetRule label stores key) slots id me 1 (λ n. n) (LooksStored stores (step slots 1 0 0 none) me)

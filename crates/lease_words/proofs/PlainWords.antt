@@ -1,10 +1,11 @@
 -- The rule, in plain words.
-use Rattle.std.proofs.Common.{◌≡◌, ◌≢◌, ℕ, suc, ◌+◌, ◌<◌, ◌≤◌, ◌⊎◌, ⊎_elim, Bool, true, false, cond, ◌&&◌, List, [], ◌∷◌, length, get_or, refl, sym, ap, ◌∙◌, subst, arith, nat_eq, nat_lt, All}
+use Rattle.std.proofs.Common.{◌≡◌, ◌≢◌, ℕ, zero, suc, ◌+◌, ◌<◌, ◌≤◌, ◌⊎◌, ⊎_elim, Bool, true, false, cond, ◌&&◌, List, [], ◌∷◌, length, get_or, refl, sym, ap, ◌∙◌, subst, arith, nat_eq, nat_lt, All}
 use Rattle.std.specs.List.{sum_by, flat_map}
 use Rattle.std.proofs.lemmas.List.Sums.{sum_by-cons, sum_by-append, get_or-le-sum_by}
+use Rattle.std.proofs.lemmas.List.{get_or_append_left, get_or-append-add, length-append}
 use Rattle.std.proofs.lemmas.List.Elements.{All-nil, All-append, All-contains}
 use Rattle.std.proofs.lemmas.Bool.{cases_lt, cases_eq, eq-eqb, lt-ltb, and_from}
-use mathlib.Core.Option.{some}
+use mathlib.Core.Option.{some, some-injective, some-ne-none}
 use lib.ListN.{get_elem?}
 use Rattle.lease_words.specs.Views.{end_of, inside, times_drawn, entry_overshoots_of, reports_of, own, IsPassView}
 use Rattle.lease_words.specs.Rule.{AreWordsKept, passes_made}
@@ -121,3 +122,15 @@ rule_is_leased b next shown mark views k =
       over_le : (number : ℕ) (vs : List View) → ((j : ℕ) (u : View) → get_elem? vs j ≡ some u → entry_overshoots_of b.total number u.entries ≤ reports_of number u.reports) → sum_by (λ (u : View). entry_overshoots_of b.total number u.entries) vs ≤ sum_by (named_by number) vs
       over_le number [] h = omega arith
       over_le number (x ∷ xs) h = let a = h 0 x refl in let i = over_le number xs (λ j u e. h (suc j) u e) in omega (arith, sum_by-cons (λ (u : View). entry_overshoots_of b.total number u.entries) x xs, sum_by-cons (named_by number) x xs)
+
+part_flat : {A : Type 0} (part : View → List A) (P : A → Type 0) (views : List View) (j : ℕ) (u : View) → get_elem? views j ≡ some u → All P (flat_map part views) → All P (part u)
+part_flat part P [] j u at all = absurd (some-ne-none u (sym at))
+part_flat part P (v ∷ vs) zero u at all = subst (λ (x : View). All P (part x)) (some-injective v u at) (λ k d l. subst P (get_or_append_left (part v) (flat_map part vs) d k l) (all k d (let sum = length-append (part v) (flat_map part vs) in omega (arith, l, sum))))
+part_flat part P (v ∷ vs) (suc j) u at all = part_flat part P vs j u at (λ k d l.
+    let sum = length-append (part v) (flat_map part vs) in
+    subst P (get_or-append-add (part v) (flat_map part vs) k d) (all (length (part v) + k) d (omega (arith, l, sum))))
+
+-- what a seat drew ends at or below the next unit
+pub entries_below : (b : Bounds) (next shown mark : ℕ) (views : List View) (seat : ℕ) (v : View) → AreWordsKept b next shown mark views → get_elem? views seat ≡ some v → All (λ e. end_of e ≤ next) v.entries
+entries_below b next shown mark views seat v k at =
+    part_flat (λ (u : View). u.entries) (λ e. end_of e ≤ next) views seat v at (rule_is_leased b next shown mark views k).below

@@ -1,6 +1,6 @@
 -- What callers see of the lease words.
 use Rattle.std.specs.List.{sum_by}
-use Rattle.std.specs.Prelude.{◌≡◌, ℕ, ◌+◌, ◌<◌, ◌≤◌, max, ◌⊎◌, List, [], ◌∷◌, length, None, Some, Result, Ok, Err, MatchOption, slice_index_or, All, AllPairs, flat_map}
+use Rattle.std.specs.Prelude.{◌≡◌, ℕ, ◌+◌, ◌<◌, ◌≤◌, max, ◌⊎◌, List, [], ◌∷◌, ◌++◌, length, None, Some, Result, Ok, Err, MatchOption, slice_index_or, All, AllPairs, flat_map}
 use Rattle.atomic_table.specs.Seated.{TableId}
 use Rattle.zk_model.specs.declared.Span.{Span}
 use Rattle.lease_core.specs.Machine.{ceiling_for}
@@ -144,6 +144,10 @@ Drew p count (Ok s) q =
 Drew p count (Err e) q =
     (q.kept ≡ Some e)
     × MatchOption p.kept (IsExhausted p count e q) (λ k. (e ≡ k) × (seen q ≡ seen p))
+
+-- what the pass drew in between begins at or after the end of each that it drew before
+abbrev pub RisesFrom : Pass → Pass → Type 0
+RisesFrom p q = (e : Entry) → entries_of q ≡ entries_of p ++ e ∷ [] → All (λ d. end_of d ≤ e.start) (entries_of p)
 
 -- the entries, and the reports, of these passes in order
 abbrev pub all_entries : List Pass → List Entry

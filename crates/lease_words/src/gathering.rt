@@ -30,6 +30,7 @@ fn take_in<K: Keeper>(
             seat: other,
             total: _,
             kept: _,
+            known: _,
         } = pass;
         shared.join_seat::<TakeIn>(seat, other);
     }

@@ -1,6 +1,6 @@
 // Makes the table, with its passes.
 ghost use Rattle.std.specs.Prelude.{◌≡◌, ◌^◌, ◌≤◌, [], length, IfOk, IfErr, None};
-ghost use Rattle.lease_words.specs.Views.{journal_of};
+ghost use Rattle.lease_words.specs.Views.{journal_of, own};
 ghost use Rattle.lease_words.specs.Passes.{IsPass};
 ghost use Rattle.lease_words.specs.Calls.{journal_view, words_id, base_of, total_of, IsSeatOf, AreFresh};
 ghost use Rattle.zk_model.specs.declared.limits.TheConstants.{MAX_PASSES, MAX_STORE_UNITS};
@@ -16,14 +16,16 @@ use std::alloc::{AllocError, Global};
 type LeaseTable<K> = Table<(), View, Key, Leases<K>, Global>;
 
 /// A pass that has not drawn.
-fn new_pass(seat: Seat<(), View>, total: u64) -> Pass
-    requires { IsPass seat.me total None × (seat.me.0.entries ≡ []) }
+fn new_pass(seat: Seat<(), View>, total: u64, known: u64) -> Pass
+    requires new { IsPass seat.me total None × (seat.me.0.entries ≡ []) }
+    requires known { known ≡ (own seat.me.0).known }
     ensures { (result.seat ≡ seat) × (result.total ≡ total) × (result.kept ≡ None) }
 {
     Pass {
         seat,
         total,
         kept: None,
+        known,
     }
 }
 
@@ -32,11 +34,13 @@ fn make_passes<K: Keeper>(
     alloc: Global,
     shared: &Shared<(), View, Key, Leases<K>>,
     seat: &mut Seat<(), View>,
+    base: u64,
     total: u64,
     passes: u32,
 ) -> Result<Vec<Pass>, AllocError>
     requires own { (seat.old.table_id ≡ shared.now.table_id) × (shared.now.table_id.words ≡ 3) }
     requires first { seat.old.me ≡ (journal_of shared.now.key.keeper shared.now.key.bounds.base total 0, []) }
+    requires base { base ≡ shared.now.key.bounds.base }
     requires bounded { passes ≤ MAX_PASSES }
     ensures own { seat.new.table_id ≡ seat.old.table_id }
     ensures seat { IfOk result (λ _. seat.new.me
@@ -47,7 +51,7 @@ fn make_passes<K: Keeper>(
     let mut made = Vec::with_capacity(alloc, passes as usize)?;
     for _ in 0..passes {
         let next = shared.split_seat::<Make>(seat);
-        made.push(new_pass(next, total))?;
+        made.push(new_pass(next, total, base))?;
     }
     Ok(made)
 }
@@ -84,7 +88,7 @@ pub fn start<K: Keeper>(
         Ok(parts) => parts,
         Err(fault) => return Err((fault, keeper)),
     };
-    match make_passes(alloc, &table.shared, &mut seat, total, passes) {
+    match make_passes(alloc, &table.shared, &mut seat, base, total, passes) {
         Ok(made) => Ok((Words { table }, JournalSeat { seat, keeper }, made)),
         Err(fault) => Err((fault, keeper)),
     }

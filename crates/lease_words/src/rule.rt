@@ -85,13 +85,15 @@ impl Join<View> for BeTold {
     ghost spent = { spent_view };
 }
 
-/// A pass draws.
-pub(crate) struct Draw;
+/// A pass draws, and the ceiling that it knows is stored.
+pub(crate) struct Draw<K> {
+    of: PhantomData<K>,
+}
 
-impl Play<(), View> for Draw {
-    ghost use Rattle.lease_words.specs.Steps.{Draws};
+impl<K: Keeper> Play<(), View> for Draw<K> {
+    ghost use Rattle.lease_words.specs.Stored.{DrawsStored};
 
-    ghost then = { Draws };
+    ghost then = { DrawsStored K.stores };
 }
 
 /// A pass looks at the ceiling, which is stored.

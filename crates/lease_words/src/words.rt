@@ -1,10 +1,10 @@
 // The calls that threads make.
-ghost use Rattle.std.specs.Prelude.{◌≡◌, ◌<◌, ◌≤◌, ◌⊎◌};
+ghost use Rattle.std.specs.Prelude.{◌≡◌, ◌<◌, ◌≤◌, ◌⊎◌, IfOk};
 ghost use Rattle.lease_words.specs.Views.{after_look, after_marked, after_raise, after_mark};
 ghost use Rattle.lease_words.specs.Calls.{seen, known_of, mark_of, journal_view, keeper_of, own_mark_of};
 ghost use Rattle.lease_words.specs.Calls.{asked_by_seat, ceiling_of, limit_of};
-ghost use Rattle.lease_words.specs.Calls.{IsPassOf, IsSeatOf, IsSame, Drew};
-ghost use Rattle.lease_words.specs.Stored.{IsStored};
+ghost use Rattle.lease_words.specs.Calls.{IsPassOf, IsSeatOf, IsSame, Drew, RisesFrom};
+ghost use Rattle.lease_words.specs.Stored.{IsStored, IsStoredAbove};
 ghost use Rattle.zk_model.specs.declared.limits.TheConstants.{MAX_UNITS};
 
 use crate::fault::Exhausted;
@@ -14,8 +14,17 @@ use crate::rule::{Draw, FindMark, Look, Raise, SetMark};
 use crate::table::Words;
 use zk_model::Span;
 
+impl Pass {
+    /// The ceiling that the pass saw last.
+    pub fn known(&self) -> u64
+        ensures { result ≡ known_of self.now }
+    {
+        self.known
+    }
+}
+
 impl<K: Keeper> Words<K> {
-    /// Draws the next `count` units, 1 to 4,096, by one atomic addition to word 0.
+    /// Draws the next `count` units, 1 to 4,096, by one atomic addition to word 0. The ceiling that the pass knows is stored.
     ///
     /// # Errors
     ///
@@ -26,6 +35,8 @@ impl<K: Keeper> Words<K> {
         requires count { (1 ≤ count) × (count ≤ MAX_UNITS) }
         ensures own { IsPassOf self.now pass.new × IsSame pass.old pass.new }
         ensures drew { Drew pass.old count result pass.new }
+        ensures stored { IfOk result (λ _. IsStoredAbove K.stores (known_of pass.old)) }
+        ensures rises { RisesFrom pass.old pass.new }
     {
         if let Some(refused) = pass.kept {
             return Err(refused);
@@ -33,7 +44,7 @@ impl<K: Keeper> Words<K> {
         let at = self
             .table
             .shared
-            .fetch_add::<Draw>(&mut pass.seat, 0, u64::from(count));
+            .fetch_add::<Draw<K>>(&mut pass.seat, 0, u64::from(count));
         let end = at + u64::from(count);
         if end > pass.total {
             let refused = Exhausted {
@@ -57,7 +68,9 @@ impl<K: Keeper> Words<K> {
         ensures known { known_of pass.new ≡ result }
         ensures stored { IsStored K.stores result }
     {
-        self.table.shared.load::<Look<K>>(&mut pass.seat, 1)
+        let shown = self.table.shared.load::<Look<K>>(&mut pass.seat, 1);
+        pass.known = shown;
+        shown
     }
 
     /// The journal's mark now, or 0 where it has none, by one atomic load of word 2. The pass then knows it.
