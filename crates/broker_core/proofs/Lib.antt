@@ -1,0 +1,11 @@
+pub mod Lists
+pub mod Steps
+pub mod Sending
+pub mod Holding
+pub mod Keeps
+pub mod Rows
+pub mod LeaseCode
+pub mod Whole
+pub mod Stops
+pub mod Took
+pub mod Serves
