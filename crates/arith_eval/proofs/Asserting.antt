@@ -1,5 +1,5 @@
 -- One assertion after another.
-use Rattle.std.proofs.Common.{◌≡◌, ◌≢◌, ℕ, ◌+◌, ◌<◌, ◌≤◌, List, [], ◌∷◌, ◌++◌, flat_map, length, take, drop, get_or, arith, sym, ◌∙◌, ap, refl, subst, length-append, append_assoc, append-nil}
+use Rattle.std.proofs.Common.{◌≡◌, ◌≢◌, ℕ, ◌+◌, ◌<◌, ◌≤◌, List, [], ◌∷◌, ◌++◌, flat_map, length, take, drop, get_or, arith, sym, ◌∙◌, ap, refl, subst, length-append, append_assoc, append-nil, length-take-le}
 use Rattle.std.proofs.Math.Seq.{take-append_seam}
 use Rattle.std.proofs.lemmas.Grind.{get_or_default_zero}
 use Rattle.std.proofs.lemmas.List.{take_more, take_all, take-append-drop}
@@ -107,6 +107,11 @@ unsatisfied circuit values elements unmet law formed computed is =
 pub satisfied : (circuit : Arith) (values elements outputs : List ℕ) → AreComputed circuit values elements → AreZero elements (asserted circuit) → outputs ≡ drop (first_output circuit) elements
     → SatisfiesElements circuit values outputs
 satisfied circuit values elements outputs computed zeros last = (elements, record { computed = computed; zero = zeros }, sym last)
+
+-- there are as many values as inputs then
+pub sized : (circuit : Arith) (values elements : List ℕ) → IsWellFormed circuit → AreComputed circuit values elements → length values ≡ circuit.inputs
+sized circuit values elements formed computed =
+    ap length (sym computed.first) ∙ length-take-le circuit.inputs elements (omega (arith, computed.whole, formed.inputs_within))
 
 -- ---- one wire
 

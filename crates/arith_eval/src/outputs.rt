@@ -1,6 +1,6 @@
 // The outputs of a circuit.
-ghost use Rattle.std.specs.Prelude.{◌≡◌, length, IfOk, IfErr};
-ghost use Rattle.zk_model.specs.Arithmetic.{SatisfiesElements};
+ghost use Rattle.std.specs.Prelude.{◌≡◌, length, drop, IfOk, IfErr};
+ghost use Rattle.zk_model.specs.Arithmetic.{AreWireElements, SatisfiesElements, first_output};
 ghost use Rattle.arith_eval.specs.Answers.{AreOnlyOutputs, IsCause};
 ghost use Rattle.arith_eval.specs.declared.fault.ArithEvalFault.TheVariants.{AssertFailed};
 
@@ -25,14 +25,41 @@ pub fn eval(alloc: Global, circuit: &Arith, values: &[Fe]) -> Result<Vec<Fe>, Ar
     ensures cause { IfErr result (IsCause circuit.now values.now) }
 {
     one_list();
+    let _wires = circuit.wires();
+    let elements = satisfying_wires(alloc, circuit, values)?;
+    let outputs = output_elements(circuit, &elements).to_vec(alloc)?;
+    Ok(outputs)
+}
+
+/// The elements of all wires of a circuit at these input elements, which meet all its assertions.
+///
+/// # Errors
+///
+/// As `eval`.
+pub fn satisfying_wires(
+    alloc: Global,
+    circuit: &Arith,
+    values: &[Fe],
+) -> Result<Vec<Fe>, ArithEvalFault>
+    ensures wires { IfOk result (λ elements. AreWireElements circuit.now values.now elements.items) }
+    ensures cause { IfErr result (IsCause circuit.now values.now) }
+{
     unmet_is_unsatisfied();
+    let _wires = circuit.wires();
     let elements = eval_wires(alloc, circuit, values)?;
-    let first = circuit.wires() - circuit.outputs();
     if let Some(unmet) = first_unmet(circuit, &elements) {
         return Err(assert_failed(unmet));
     }
-    let outputs = elements[first..].to_vec(alloc)?;
-    Ok(outputs)
+    Ok(elements)
+}
+
+/// The elements of the output wires, where all wires have these.
+pub fn output_elements<'a>(circuit: &Arith, elements: &'a [Fe]) -> &'a [Fe]
+    requires { length elements.now ≡ circuit.now.wires }
+    ensures { result.now ≡ drop (first_output circuit.now) elements.now }
+{
+    let first = circuit.wires() - circuit.outputs();
+    &elements[first..]
 }
 
 /// The fault of an assertion that is not met.

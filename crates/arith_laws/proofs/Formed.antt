@@ -226,6 +226,11 @@ mul_of c (Const value out ∷ gates) j product stands =
 mul_of c (Assert a ∷ gates) j product stands =
     let rest = mul_of c gates j product stands in record { number = suc rest.number; out = rest.out; stands = rest.stands; value = rest.value }
 
+-- products have the given values behind the inputs, in order
+pub product_numbered : (circuit : Arith) (i : ℕ) (product : Product) → slice_get (arith_program circuit).products i ≡ Some product
+    → product.c ≡ circuit.inputs + i
+product_numbered circuit i product stands = (mul_of circuit.inputs circuit.gates i product stands).value
+
 -- a MUL takes a product that is there
 taken_within : (c : ℕ) (gates : List ArithRow) (k a b out : ℕ) → slice_get gates k ≡ Some (Mul a b out) → products_to c gates k < length (products_from c gates)
 taken_within c [] k a b out stands = none_in k (Mul a b out) stands

@@ -8,8 +8,8 @@ use Rattle.std.proofs.lemmas.List.Elements.{All-from_recursion, recursion_from_A
 use Rattle.mersenne_field.proofs.FieldLaws.{reduced}
 use Rattle.mersenne_field.proofs.Flatten.{flatten}
 use Rattle.zk_model.specs.Field.{IsElement, prime, ◌+ₚ◌, ◌*ₚ◌}
-use Rattle.zk_model.specs.Program.{IsSolvedBy, MeetsStep, Multiplies}
-use Rattle.zk_model.specs.Arithmetic.{Arith, Computes, IsWellFormed, MayCome, SatisfiesElements, asserted, element_of, first_output}
+use Rattle.zk_model.specs.Program.{IsSolvedBy, MeetsStep, Multiplies, Solves}
+use Rattle.zk_model.specs.Arithmetic.{Arith, AreComputed, Computes, IsWellFormed, MayCome, SatisfiesElements, asserted, element_of, first_output}
 use Rattle.zk_model.specs.ArithProgram.{arith_claims, arith_program, products_from, steps_from}
 use Rattle.zk_model.specs.declared.ArithRow.{ArithRow}
 use Rattle.zk_model.specs.declared.ArithRow.TheVariants.{Add, Mul, Const, Assert}
@@ -62,7 +62,7 @@ constant_term x is = omega (arith, is)
 -- ---- a satisfied circuit
 
 -- the values of the products of gates
-abbrev values_from : List ℕ → List ArithRow → List ℕ
+abbrev pub values_from : List ℕ → List ArithRow → List ℕ
 values_from elements [] = []
 values_from elements (Add a b out ∷ gates) = values_from elements gates
 values_from elements (Mul a b out ∷ gates) = element_of elements a *ₚ element_of elements b ∷ values_from elements gates
@@ -144,31 +144,45 @@ zeros_back : (elements wires : List ℕ) → map (slice_index elements) wires �
 zeros_back elements [] all = tt
 zeros_back elements (wire ∷ wires) all = (ap (λ l. get_or l 0 0) all, zeros_back elements wires (ap (drop 1) all))
 
+-- the given values of a circuit that computes these elements: its inputs, and then its products
+abbrev pub given_values : Arith → List ℕ → List ℕ → List ℕ
+given_values circuit inputs elements = inputs ++ values_from elements circuit.gates
+
+pub first_given : (circuit : Arith) (inputs elements : List ℕ) → length inputs ≡ circuit.inputs
+    → take circuit.inputs (given_values circuit inputs elements) ≡ inputs
+first_given circuit inputs elements long =
+    ap (λ n. take n (given_values circuit inputs elements)) (sym long) ∙ take-append_seam inputs (values_from elements circuit.gates)
+
+-- they solve its program, whether or not assertions are met
+pub computed_is_solved : (circuit : Arith) (inputs elements : List ℕ) → IsWellFormed circuit → length inputs ≡ circuit.inputs
+    → AreComputed circuit inputs elements → Solves (arith_program circuit) [] elements (given_values circuit inputs elements)
+computed_is_solved circuit inputs elements formed long computed =
+    let values : List ℕ = values_from elements circuit.gates in
+    let given : List ℕ = given_values circuit inputs elements in
+    let are = right elements given circuit.gates inputs circuit.inputs (by_each (Computes elements) circuit.gates computed.gates) (constants circuit formed) refl long in
+    record {
+      carried = record {
+        whole = computed.whole;
+        constants = refl;
+        inputs = computed.first ∙ sym (first_given circuit inputs elements long);
+        steps = All-from_recursion (MeetsStep 1 elements given) (steps_from circuit.inputs circuit.gates) are.steps;
+      };
+      count = length-append inputs values ∙ (λ i. long i + length-values elements circuit.gates circuit.inputs i);
+      elements = All-append IsElement inputs values (subst (All IsElement) computed.first (All-take IsElement circuit.inputs elements computed.elements_are))
+          (All-from_recursion IsElement values (values_are elements circuit.gates));
+      multiplied = All-from_recursion (Multiplies elements given) (products_from circuit.inputs circuit.gates) are.products;
+    }
+
 pub satisfied_is_solved : (circuit : Arith) (inputs outputs : List ℕ) → IsWellFormed circuit → length inputs ≡ circuit.inputs → SatisfiesElements circuit inputs outputs
     → IsSolvedBy (arith_program circuit) [] inputs (arith_claims circuit outputs)
 satisfied_is_solved circuit inputs outputs formed long by =
     let elements : List ℕ = by.0 in
     let computed = by.1.computed in
-    let values : List ℕ = values_from elements circuit.gates in
-    let given : List ℕ = inputs ++ values in
-    let are = right elements given circuit.gates inputs circuit.inputs (by_each (Computes elements) circuit.gates computed.gates) (constants circuit formed) refl long in
-    let first : take circuit.inputs given ≡ inputs = ap (λ n. take n given) (sym long) ∙ take-append_seam inputs values in
     record {
       wires = elements;
-      given = given;
-      solved = record {
-        carried = record {
-          whole = computed.whole;
-          constants = refl;
-          inputs = computed.first ∙ sym first;
-          steps = All-from_recursion (MeetsStep 1 elements given) (steps_from circuit.inputs circuit.gates) are.steps;
-        };
-        count = length-append inputs values ∙ (λ i. long i + length-values elements circuit.gates circuit.inputs i);
-        elements = All-append IsElement inputs values (subst (All IsElement) computed.first (All-take IsElement circuit.inputs elements computed.elements_are))
-            (All-from_recursion IsElement values (values_are elements circuit.gates));
-        multiplied = All-from_recursion (Multiplies elements given) (products_from circuit.inputs circuit.gates) are.products;
-      };
-      first = first;
+      given = given_values circuit inputs elements;
+      solved = computed_is_solved circuit inputs elements formed long computed;
+      first = first_given circuit inputs elements long;
       last = map-append (slice_index elements) (range_with_len (first_output circuit) circuit.outputs) (asserted circuit)
           ∙ (λ i. (last_elements elements (first_output circuit) circuit.outputs (omega (arith, computed.whole, formed.outputs_within)) ∙ by.2) i
           ++ zeros elements (asserted circuit) (recursion_from_All (λ wire. element_of elements wire ≡ 0) (asserted circuit) by.1.zero) i);

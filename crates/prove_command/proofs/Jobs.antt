@@ -1,8 +1,5 @@
 -- What proves a claim makes a prover's job.
-use Rattle.std.proofs.Common.{◌≡◌, ◌∙◌, ℕ, Bool, List, [], Option, None, Some, IfSome, take, refl, sym, ap, subst}
-use Rattle.std.specs.Prelude.{Vec}
-use Rattle.std.specs.Option.{option_map}
-use Rattle.std.specs.declared.alloc.Global.{Global}
+use Rattle.std.proofs.Common.{◌≡◌, ◌∙◌, ℕ, List, [], Option, take, refl, sym, ap, subst}
 use Rattle.sha2.specs.Sha256.{sha256}
 use Rattle.zk_model.specs.Arithmetic.{Arith, IsWellFormed, SatisfiesElements}
 use Rattle.zk_model.specs.ArithProgram.{arith_claims, arith_program}
@@ -15,7 +12,10 @@ use Rattle.circuit_laws.proofs.Made.{one_made}
 use Rattle.arith_laws.proofs.Formed.{arith_is_ordered, arith_is_program}
 use Rattle.arith_laws.proofs.Solved.{satisfied_is_solved}
 use Rattle.wire_auth.specs.Values.{given_made}
-use Rattle.session_core.specs.Jobs.{AreWitnessBits, ProverJob, prover_from}
+use Rattle.session_core.specs.Jobs.{AreWitnessValues, ProverJob, prover_from}
+use Rattle.session_core.specs.declared.wire_values.WireValues.{WireValues}
+use Rattle.session_core.specs.declared.wire_values.WireValues.TheVariants.{Bits, Elements}
+use Rattle.session_core.proofs.Computed.{elements_prove}
 use Rattle.session_rehearsal.proofs.Rehearsed.{sized_values}
 use Rattle.file_commands.specs.Stops.{IsProverFileAt}
 use Rattle.prove_command.specs.BitsProofs.{IsBitsJob}
@@ -56,15 +56,15 @@ elements_witness circuit digest outputs inputs statement values given formed sat
     )
 
 -- a job with the inputs that prove a claim is to prove it
-pub is_claim_job : (told : Option Files) (proof : ProofNames) (statement : Statement) (inputs : List ℕ) (wires : Option (List Bool)) (file : ProverFile)
+pub is_claim_job : (told : Option Files) (proof : ProofNames) (statement : Statement) (inputs : List ℕ) (wires : WireValues) (file : ProverFile)
     (job : ProverJob) (values : List ℕ) → HasWitness told proof statement inputs wires → job ≡ prover_from statement inputs file
     → AreMade statement.program statement.public inputs values job.given → IsClaimJob told proof job
-is_claim_job told (names.Boolean proof) statement inputs None file job values has is made = absurd has
-is_claim_job told (names.Boolean proof) statement inputs (Some wires) file job values has is made =
+is_claim_job told (names.Boolean proof) statement inputs (Elements elements) file job values has is made = absurd has
+is_claim_job told (names.Boolean proof) statement inputs (Bits bits) file job values has is made =
     subst (IsBitsJob told proof) (sym (is ∙ has.proves file))
-    (record { circuit = has.circuit; wires = wires; witnessed = has.witnessed; job_is = refl })
-is_claim_job told (names.Arithmetic proof) statement inputs (Some wires) file job values has is made = absurd has
-is_claim_job told (names.Arithmetic proof) statement inputs None file job values has is made =
+    (record { circuit = has.circuit; wires = bits.items; witnessed = has.witnessed; job_is = refl })
+is_claim_job told (names.Arithmetic proof) statement inputs (Bits bits) file job values has is made = absurd has
+is_claim_job told (names.Arithmetic proof) statement inputs (Elements elements) file job values has is made =
     let solved = has.1 in
     let found = elements_witness has.0 (sha256 solved.claim.text) solved.outputs inputs statement values job.given solved.claim.says.is.well_formed
     solved.satisfied solved.claim.statement_is made in
@@ -78,7 +78,7 @@ is_claim_job told (names.Arithmetic proof) statement inputs None file job values
     })
 
 -- and over the prover's file it is the job that was asked for, also where the statement and the inputs are such that are the same
-pub is_prove_job : (told : Option Files) (proof : Proof) (statement said : Statement) (inputs given : List ℕ) (wires : Option (List Bool)) (file : ProverFile)
+pub is_prove_job : (told : Option Files) (proof : Proof) (statement said : Statement) (inputs given : List ℕ) (wires : WireValues) (file : ProverFile)
     (job : ProverJob) → HasWitness told proof.names statement inputs wires → IsProverFileAt told proof.file file → said ≡ statement → given ≡ inputs
     → job ≡ prover_from said given file → (values : List ℕ) × AreMade said.program said.public given values job.given → IsProveJob told proof job
 is_prove_job told proof statement said inputs given wires file job has at stated same is made = record {
@@ -88,20 +88,23 @@ is_prove_job told proof statement said inputs given wires file job has at stated
 }
 
 -- the claim is there, with what proves it
-pub true_claim : (told : Option Files) (proof : ProofNames) (statement : Statement) (inputs : List ℕ) (wires : Option (List Bool))
+pub true_claim : (told : Option Files) (proof : ProofNames) (statement : Statement) (inputs : List ℕ) (wires : WireValues)
     → HasWitness told proof statement inputs wires → IsTrueClaim told proof
-true_claim told (names.Boolean proof) statement inputs None has = absurd has
-true_claim told (names.Boolean proof) statement inputs (Some wires) has = (has.circuit, statement, wires, has.witnessed)
-true_claim told (names.Arithmetic proof) statement inputs (Some wires) has = absurd has
-true_claim told (names.Arithmetic proof) statement inputs None has = (has.0, statement, inputs, has.1)
+true_claim told (names.Boolean proof) statement inputs (Elements elements) has = absurd has
+true_claim told (names.Boolean proof) statement inputs (Bits bits) has = (has.circuit, statement, bits.items, has.witnessed)
+true_claim told (names.Arithmetic proof) statement inputs (Bits bits) has = absurd has
+true_claim told (names.Arithmetic proof) statement inputs (Elements elements) has = (has.0, statement, inputs, has.1)
 
--- bits of all wires make the given values of a prover with such inputs
-pub witness_bits : (told : Option Files) (proof : ProofNames) (statement : Statement) (inputs : List ℕ) (wires : Option (Vec Bool Global)) (file : ProverFile)
-    → HasWitness told proof statement inputs (option_map (λ (bits : Vec Bool Global). bits.items) wires)
-    → IfSome wires (λ bits. AreWitnessBits (given_made statement.program statement.public inputs) statement.program bits.items)
-witness_bits told proof statement inputs None file has = tt
-witness_bits told (names.Boolean proof) statement inputs (Some wires) file has = record {
+-- the values of all wires make the given values of a prover with such inputs
+pub witness_values : (told : Option Files) (proof : ProofNames) (statement : Statement) (inputs : List ℕ) (wires : WireValues) (file : ProverFile)
+    → HasWitness told proof statement inputs wires
+    → AreWitnessValues (given_made statement.program statement.public inputs) statement.program wires
+witness_values told (names.Boolean proof) statement inputs (Elements elements) file has = absurd has
+witness_values told (names.Boolean proof) statement inputs (Bits bits) file has = record {
   whole = has.witnessed.wires_are.whole ∙ sym (ap (λ (s : Statement). s.program.wires) has.witnessed.claim.statement_is);
   made = ap (λ (job : ProverJob). job.given) (has.proves file);
 }
-witness_bits told (names.Arithmetic proof) statement inputs (Some wires) file has = absurd has
+witness_values told (names.Arithmetic proof) statement inputs (Bits bits) file has = absurd has
+witness_values told (names.Arithmetic proof) statement inputs (Elements elements) file has =
+    subst (λ (s : Statement). AreWitnessValues (given_made s.program s.public inputs) s.program (Elements elements)) (sym has.1.claim.statement_is)
+    (record { whole = has.2.whole; made = elements_prove has.0 inputs elements.items has.1.claim.says.is.well_formed has.2 })

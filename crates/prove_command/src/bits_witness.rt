@@ -1,6 +1,5 @@
 // A Boolean circuit, and the bits that prove what is claimed of it.
 ghost use Rattle.std.specs.Prelude.{◌≡◌, ◌≤◌, ◌++◌, IfOk, IfErr, OnOk, None, IfSome, drop, length};
-ghost use Rattle.std.specs.Option.{option_map};
 ghost use Rattle.zk_model.specs.Circuit.{Circuit, AreWireBits, output_wire};
 ghost use Rattle.zk_port.specs.Changes.{change};
 ghost use Rattle.file_commands.specs.Effects.{OnlyLoads, IsName};
@@ -14,7 +13,7 @@ use bool_eval::{EvalFault, eval_wires, output_bits};
 use bristol_reader::Circuit;
 use circuit_laws::{bits_solve, one_outcome};
 use file_commands::{ClaimedCircuit, Refusal, check_public, load_file, read_and_digest};
-use session_core::{CircuitClaim, elements_of, input_bits_prove};
+use session_core::{CircuitClaim, WireValues, elements_of, input_bits_prove};
 use std::alloc::{AllocError, Global};
 use std::thread::Threads;
 use zk_port::Shelf;
@@ -111,7 +110,7 @@ pub fn load_bits<R: Threads + Sync, F: Shelf>(
 ) -> Result<Witness, Refusal>
     ensures witness { IfOk result (λ w.
         HasWitness (F.state shelf.old).told (names.Boolean proof.now) w.claim w.inputs.items
-        (option_map (λ bits. bits.items) w.wires)) }
+        w.wires) }
     ensures inputs { IfOk result (λ w. length w.inputs.items ≡ w.claim.program.inputs) }
     ensures stop { IfErr result (BitsProofStop proof.now (change (F.state shelf.old) (F.state shelf.new))) }
     ensures kept { OnlyLoads (IsName proof.now.circuit) (change (F.state shelf.old) (F.state shelf.new)) }
@@ -133,6 +132,6 @@ pub fn load_bits<R: Threads + Sync, F: Shelf>(
     Ok(Witness {
         claim,
         inputs,
-        wires: Some(wires),
+        wires: WireValues::Bits(wires),
     })
 }

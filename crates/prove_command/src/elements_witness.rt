@@ -1,8 +1,7 @@
 // An arithmetic circuit, and the elements that prove what is claimed of it.
 ghost use Rattle.std.specs.Prelude.{◌≡◌, ℕ, List, IfOk, IfErr, OnOk, None, IfSome, length};
-ghost use Rattle.std.specs.Option.{option_map};
 ghost use Rattle.arith_eval.specs.Answers.{IsCause};
-ghost use Rattle.zk_model.specs.Arithmetic.{SatisfiesElements};
+ghost use Rattle.zk_model.specs.Arithmetic.{AreComputed, SatisfiesElements};
 ghost use Rattle.zk_port.specs.Changes.{change};
 ghost use Rattle.file_commands.specs.Effects.{OnlyLoads};
 ghost use Rattle.prove_command.specs.ElementsProofs.{ElementDiffersFirst, ElementsProofStop, ValuesStop};
@@ -11,12 +10,13 @@ ghost use Rattle.prove_command.specs.declared.proof.ProofNames.TheVariants as na
 
 use crate::proof::ElementsProof;
 use crate::witness::Witness;
-use arith_eval::{ArithEvalFault, eval};
+use arith_eval::{ArithEvalFault, output_elements, satisfying_wires};
+use arith_laws::one_list;
 use arith_reader::Arith;
 use claim_files::{DigestedArith, load_digested_arith, load_elements};
 use file_commands::Refusal;
 use mersenne_field::Fe;
-use session_core::CircuitClaim;
+use session_core::{CircuitClaim, WireValues};
 use std::alloc::Global;
 use std::thread::Threads;
 use zk_port::Shelf;
@@ -51,24 +51,27 @@ fn eval_stop(circuit: &Arith, values: &[Fe], fault: ArithEvalFault) -> Refusal
     }
 }
 
-/// Whether values make a circuit give these outputs, and meet its assertions.
+/// The elements of all wires, where values make a circuit give these outputs, and meet its assertions.
 fn check_values(
     alloc: Global,
     circuit: &Arith,
     values: &[Fe],
     outputs: &[Fe],
-) -> Result<(), Refusal>
+) -> Result<Vec<Fe>, Refusal>
     requires values { length values.now ≡ circuit.now.inputs }
     requires outputs { length outputs.now ≡ circuit.now.outputs }
+    ensures computed { IfOk result (λ elements. AreComputed circuit.now values.now elements.items) }
     ensures satisfied { OnOk result (SatisfiesElements circuit.now values.now outputs.now) }
     ensures stop { IfErr result (ValuesStop circuit.now values.now outputs.now) }
 {
-    let given = match eval(alloc, circuit, values) {
-        Ok(given) => given,
+    one_list();
+    let _wires = circuit.wires();
+    let elements = match satisfying_wires(alloc, circuit, values) {
+        Ok(elements) => elements,
         Err(fault) => return Err(eval_stop(circuit, values, fault)),
     };
-    match first_difference(&given, outputs) {
-        None => Ok(()),
+    match first_difference(output_elements(circuit, &elements), outputs) {
+        None => Ok(elements),
         Some(output) => Err(Refusal::Unsatisfied {
             output: output as u64,
         }),
@@ -84,7 +87,7 @@ pub fn load_solution<R: Threads + Sync, F: Shelf>(
 ) -> Result<Witness, Refusal>
     ensures witness { IfOk result (λ w.
         HasWitness (F.state shelf.old).told (names.Arithmetic proof.now) w.claim w.inputs.items
-        (option_map (λ bits. bits.items) w.wires)) }
+        w.wires) }
     ensures inputs { IfOk result (λ w. length w.inputs.items ≡ w.claim.program.inputs) }
     ensures stop { IfErr result (ElementsProofStop proof.now
         (change (F.state shelf.old) (F.state shelf.new))) }
@@ -100,12 +103,12 @@ pub fn load_solution<R: Threads + Sync, F: Shelf>(
     let outputs_name = proof.outputs();
     let claimed = read.circuit.outputs() as u64;
     let outputs = load_elements(alloc, shelf, outputs_name, claimed)?;
-    check_values(alloc, &read.circuit, &inputs, &outputs)?;
+    let elements = check_values(alloc, &read.circuit, &inputs, &outputs)?;
     let DigestedArith { circuit, digest } = read;
     let claim = CircuitClaim::of_arith(alloc, circuit, digest, &outputs)?;
     Ok(Witness {
         claim,
         inputs,
-        wires: None,
+        wires: WireValues::Elements(elements),
     })
 }

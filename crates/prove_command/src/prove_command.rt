@@ -1,10 +1,6 @@
 // `prove ADDRESS FILE CIRCUIT BITS OUTPUTS [--public BITS]` and `prove-arith ADDRESS FILE CIRCUIT VALUES OUTPUTS`
 ghost use Rattle.std.specs.Prelude.{◌≡◌, ◌⊎◌, ℕ, List, IfOk, IfErr, IfSome, OnOk, length};
-ghost use Rattle.std.specs.Option.{option_map};
-ghost use Rattle.zk_model.specs.Program.{AreMade};
 ghost use Rattle.zk_port.specs.Changes.{change};
-ghost use Rattle.wire_auth.specs.Values.{given_made};
-ghost use Rattle.session_core.specs.Jobs.{AreWitnessBits, prover_from};
 ghost use Rattle.file_commands.specs.Journals.{IsJournalDisk, disk_change};
 ghost use Rattle.prove_command.specs.ProveRuns.{BeginningStop, HoldsAsked, HoldsSession, LacksProof, Proves, ProveStop};
 ghost use Rattle.prove_command.specs.ProveRuns.{HasWitness, IsProveName, IsWitnessName, WitnessStop};
@@ -38,7 +34,7 @@ fn load_witness<R: Threads + Sync, F: Shelf>(
 ) -> Result<Witness, Refusal>
     ensures witness { IfOk result (λ w.
         HasWitness (F.state shelf.old).told names.now w.claim w.inputs.items
-        (option_map (λ bits. bits.items) w.wires)) }
+        w.wires) }
     ensures inputs { IfOk result (λ w. length w.inputs.items ≡ w.claim.program.inputs) }
     ensures stop { IfErr result (WitnessStop names.now (change (F.state shelf.old) (F.state shelf.new))) }
     ensures kept { OnlyLoads (IsWitnessName names.now) (change (F.state shelf.old) (F.state shelf.new)) }
@@ -59,7 +55,7 @@ fn load_all<R: Threads + Sync, F: Shelf>(
 ) -> Result<(Witness, ProverFile), Refusal>
     ensures witness { IfOk result (λ r.
         HasWitness (F.state shelf.old).told proof.now.names r.0.claim r.0.inputs.items
-        (option_map (λ bits. bits.items) r.0.wires)) }
+        r.0.wires) }
     ensures inputs { IfOk result (λ r. length r.0.inputs.items ≡ r.0.claim.program.inputs) }
     ensures file { IfOk result (λ r. IsProverFileAt (F.state shelf.old).told proof.now.file r.1) }
     ensures stop { IfErr result (λ stop. LacksProof proof.now
@@ -116,28 +112,6 @@ fn prove_job<R: Threads + Sync, D: Door, B: Disk>(
     Ok((note, claimant.into_store().close()))
 }
 
-/// The job of proving a statement by these values of its inputs; where bits of all wires are known whose products are its given values, by
-/// these.
-fn job_by<'a>(
-    statement: &'a Statement<'a>,
-    file: &'a ProverFile,
-    inputs: &'a [Fe],
-    wires: &'a Option<Vec<bool>>,
-) -> ProverJob<'a>
-    requires inputs { length inputs.now ≡ statement.now.program.inputs }
-    requires bits { IfSome wires.now (λ bits.
-        AreWitnessBits (given_made statement.now.program statement.now.public inputs.now)
-        statement.now.program bits.items) }
-    ensures job { result ≡ prover_from statement.now inputs.now file.now }
-    ensures made { (values : List ℕ)
-        × AreMade statement.now.program statement.now.public inputs.now values result.given }
-{
-    match wires {
-        None => ProverJob::new(statement, file, inputs),
-        Some(bits) => ProverJob::with_bits(statement, file, inputs, Some(bits.as_slice())),
-    }
-}
-
 /// Proves what is named, or says why not.
 fn prove_files<R: Threads + Sync, F: Shelf, D: Door, B: Disk>(
     rt: &R,
@@ -161,7 +135,7 @@ fn prove_files<R: Threads + Sync, F: Shelf, D: Door, B: Disk>(
         Err(refusal) => return Err((refusal, journal)),
     };
     let statement = witness.claim.statement();
-    let job = job_by(&statement, &file, &witness.inputs, &witness.wires);
+    let job = ProverJob::with_wires(&statement, &file, &witness.inputs, &witness.wires);
     prove_job(rt, alloc, &job, proof, journal, door)
 }
 

@@ -1,11 +1,11 @@
 // What proves a claim.
 use mersenne_field::Fe;
-use session_core::CircuitClaim;
+use session_core::{CircuitClaim, WireValues};
 
-/// A claim, and the values of its inputs that prove it; where it is about a Boolean circuit also the bits of all wires then.
+/// A claim, and the values of its inputs that prove it, with those of all wires then.
 #[derive(Drop)]
 pub struct Witness {
     pub claim: CircuitClaim,
     pub inputs: Vec<Fe>,
-    pub wires: Option<Vec<bool>>,
+    pub wires: WireValues,
 }

@@ -6,3 +6,4 @@ pub mod Rounds
 pub mod Served
 pub mod DirectViews
 pub mod Proving
+pub mod Computed

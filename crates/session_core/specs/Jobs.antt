@@ -11,7 +11,12 @@ use Rattle.zk_model.specs.Transcript.{Grant, Hello, IsHelloFor, units_for}
 use Rattle.zk_model.specs.ServedVerifier.{VerifierTask}
 use Rattle.zk_model.specs.declared.Params.{Params}
 use Rattle.zk_model.specs.declared.StatementKind.{StatementKind}
-use Rattle.wire_auth.specs.Values.{given_made}
+use Rattle.zk_model.specs.Arithmetic.{Arith, AreComputed}
+use Rattle.zk_model.specs.Arithmetic.{IsWellFormed as IsWellFormedArith}
+use Rattle.zk_model.specs.ArithProgram.{arith_program}
+use Rattle.wire_auth.specs.Values.{given_from, given_made}
+use Rattle.session_core.specs.declared.wire_values.WireValues.{WireValues}
+use Rattle.session_core.specs.declared.wire_values.WireValues.TheVariants.{Bits, Elements}
 use Rattle.session_core.specs.declared.verifier_job.TooLarge.{TooLarge}
 use Rattle.zk_model.specs.declared.limits.TheConstants.{MAX_SECTION_LENGTH, MAX_STATEMENTS, MAX_UNITS}
 
@@ -116,10 +121,20 @@ abbrev pub prover_of : Statement → List Bool → ProverFile → ProverJob
 prover_of statement bits file =
     record { statement = statement; file = file; given = bits_of_products statement.program.products bits }
 
--- bits of all wires of a program, whose products are these given values
-pub record AreWitnessBits (given : List ℕ) (program : Program) (bits : List Bool) : Type 0 where
-  pub whole : length bits ≡ program.wires
-  pub made : given ≡ bits_of_products program.products bits
+-- how many wires have these values
+abbrev pub wires_in : WireValues → ℕ
+wires_in (Bits bits) = length bits.items
+wires_in (Elements elements) = length elements.items
+
+-- the given values that they make
+abbrev pub given_by : Program → WireValues → List ℕ
+given_by program (Bits bits) = bits_of_products program.products bits.items
+given_by program (Elements elements) = given_from program elements.items
+
+-- values of all wires of a program, that make these given values
+pub record AreWitnessValues (given : List ℕ) (program : Program) (values : WireValues) : Type 0 where
+  pub whole : wires_in values ≡ program.wires
+  pub made : given ≡ given_by program values
 
 -- The first is the second for each claim about a circuit, where the private inputs are bits and the others the bits that the circuit
 -- has on all wires then.
@@ -128,6 +143,11 @@ InputBitsProve = (circuit : Circuit) (digest : List ℕ) (public outputs inputs 
     → IsWellFormed circuit → length public ≤ circuit.inputs → AreWireBits circuit (public ++ inputs) bits
     → prover_from (circuit_statement circuit digest public outputs) (map from_bit inputs) file
     ≡ prover_of (circuit_statement circuit digest public outputs) bits file
+
+-- The elements that an arithmetic circuit computes on all wires make the given values that its inputs make.
+abbrev pub ElementsProve : Type 0
+ElementsProve = (circuit : Arith) (inputs elements : List ℕ) → IsWellFormedArith circuit → AreComputed circuit inputs elements
+    → given_made (arith_program circuit) [] inputs ≡ given_from (arith_program circuit) elements
 
 -- as many given values as the program has
 pub record IsProverJob (job : ProverJob) : Type 0 where

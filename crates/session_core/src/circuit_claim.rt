@@ -2,7 +2,7 @@
 ghost use Rattle.std.specs.Prelude.{◌≡◌, ◌≤◌, ◌++◌, ◌-◌, length, replicate, IfOk};
 ghost use Rattle.zk_model.specs.Bytes.{AreBytes};
 ghost use Rattle.zk_model.specs.Statement.{arith_statement, circuit_statement};
-ghost use Rattle.session_core.specs.Jobs.{InputBitsProve};
+ghost use Rattle.session_core.specs.Jobs.{ElementsProve, InputBitsProve};
 
 use crate::statement::{Statement, bits_digest, elements_digest, elements_of};
 use arith_laws::arith_is_statement;
@@ -150,3 +150,8 @@ pub fn input_bits_prove()
 {
     bits_make_products();
 }
+
+/// The elements that an arithmetic circuit computes on all wires make the given values that its inputs make. It does nothing.
+pub fn computed_elements_prove()
+    ensures { ElementsProve }
+{}

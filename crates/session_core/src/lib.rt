@@ -2,7 +2,7 @@
 //! QuickSilver, ACM CCS 2021).
 //!
 //! `statement` has what a session is about, `circuit_claim` the claim that some inputs make a circuit, Boolean or arithmetic, give outputs, `hellos` whether a
-//! hello is for it. `prover_job` and `verifier_job` have what either end is to do, and its turns as calls, `verifier_jobs` what a
+//! hello is for it. `prover_job` and `verifier_job` have what either end is to do, and its turns as calls, `wire_values` what a prover may know of all wires, `verifier_jobs` what a
 //! verifier is to do of several statements; `prover_core` and `verifier_core` take frames one by one and take these turns. `extending`
 //! has the asks, replies, pairs and keys of all units of a grant, `round_frames` their frames, `workers` what several threads can share,
 //! `left_sides` what a verifier has before the sums come, `judgement` what the checks found, `fault` why a core stops.
@@ -27,9 +27,10 @@ mod statement;
 mod verifier_core;
 mod verifier_job;
 mod verifier_jobs;
+mod wire_values;
 mod workers;
 
-pub use circuit_claim::{CircuitClaim, input_bits_prove};
+pub use circuit_claim::{CircuitClaim, computed_elements_prove, input_bits_prove};
 pub use extending::{Replied, ask_lists, ask_units, asks_in, replies_in, reply_units};
 pub use fault::{Digests, HelloDiffers, ProverFault, VerifierFault};
 pub use hellos::difference;
@@ -43,5 +44,6 @@ pub use verifier_core::VerifierCore;
 pub use verifier_job::{TooLarge, VerifierJob, units_for};
 pub use verifier_jobs::VerifierJobs;
 pub use wire_auth::Correlations;
+pub use wire_values::WireValues;
 pub use workers::{Fan, OneThread, Workers};
 pub use zk_model::Verdict;

@@ -9,36 +9,37 @@ ghost use Rattle.zk_model.specs.View.{span_of};
 ghost use Rattle.zk_model.specs.declared.Kind.TheVariants.{Direct};
 ghost use Rattle.session_core.specs.Ends.{IsFixed, masks_in};
 ghost use Rattle.wire_auth.specs.Values.{given_made};
-ghost use Rattle.session_core.specs.Jobs.{AreWitnessBits, IsProverJob, Suits, prover_from};
+ghost use Rattle.session_core.specs.Jobs.{AreWitnessValues, IsProverJob, Suits, prover_from};
 ghost use Rattle.session_core.specs.Fixing.{AreEnough, IsFixedUnder, pairs_fixed};
 ghost use Rattle.zk_model.specs.declared.limits.TheConstants.{MAX_DEALT_UNITS, MAX_GATES, MAX_WIRES};
 
 use crate::statement::Statement;
 use crate::verifier_job::units_for;
+use crate::wire_values::{WireValues, known_corrections};
 use crate::workers::Workers;
 use dealer_files::ProverFile;
 use mersenne_field::{Fe, Pair};
 use proof_frames::{Grant, Hello};
 use std::alloc::{AllocError, Global};
 use std::marker::Model;
-use wire_auth::{ProverWalk, bit_corrections, walk_corrections};
+use wire_auth::{ProverWalk, walk_corrections};
 use zk_model::{MAX_SECTION_LENGTH, MAX_UNITS, Span};
 
-/// What a prover is to do: its statement and its file, and the values of its private inputs; and bits of all wires whose products are
-/// its given values, where they are known.
+/// What a prover is to do: its statement and its file, and the values of its private inputs; and values of all wires that make its
+/// given values, where they are known.
 #[derive(Debug, Drop)]
 pub struct ProverJob<'a> {
     statement: &'a Statement<'a>,
     file: &'a ProverFile,
     inputs: &'a [Fe],
-    bits: Option<&'a [bool]>,
+    wires: Option<&'a WireValues>,
 }
 
 impl<'a> Model for ProverJob<'a> {
     ghost use Rattle.std.specs.Prelude.{◌≡◌, length, IfSome};
     ghost use Rattle.wire_auth.specs.Values.{given_made};
     ghost use Rattle.session_core.specs.Jobs as jobs;
-    ghost use Rattle.session_core.specs.Jobs.{AreWitnessBits, IsProverJob, prover_from};
+    ghost use Rattle.session_core.specs.Jobs.{AreWitnessValues, IsProverJob, prover_from};
 
     ghost Value = { jobs.ProverJob };
 
@@ -46,8 +47,8 @@ impl<'a> Model for ProverJob<'a> {
 
     ghost invariant = { λ p. IsProverJob (prover_from p.statement.now p.inputs.now p.file.now)
         × (length p.inputs.now ≡ p.statement.now.program.inputs)
-        × IfSome p.bits (λ bits. AreWitnessBits (given_made p.statement.now.program p.statement.now.public p.inputs.now)
-        p.statement.now.program bits.now) };
+        × IfSome p.wires (λ wires. AreWitnessValues (given_made p.statement.now.program p.statement.now.public p.inputs.now)
+        p.statement.now.program wires.now) };
 }
 
 /// What a prover answers a challenge by.
@@ -106,22 +107,21 @@ impl<'a> ProverJob<'a> {
             statement,
             file,
             inputs,
-            bits: None,
+            wires: None,
         }
     }
 
-    /// A job with the values of the private inputs, and, where they are known, bits of all wires whose products are its given values: it
-    /// makes its corrections of them, without a walk along the program.
-    pub fn with_bits(
+    /// A job with the values of the private inputs, and values of all wires that make its given values: it makes its corrections of these,
+    /// without a walk along the program.
+    pub fn with_wires(
         statement: &'a Statement<'a>,
         file: &'a ProverFile,
         inputs: &'a [Fe],
-        bits: Option<&'a [bool]>,
+        wires: &'a WireValues,
     ) -> Self
         requires inputs { length inputs.now ≡ statement.now.program.inputs }
-        requires bits { IfSome bits (λ bits.
-            AreWitnessBits (given_made statement.now.program statement.now.public inputs.now)
-            statement.now.program bits.now) }
+        requires wires { AreWitnessValues (given_made statement.now.program statement.now.public inputs.now)
+            statement.now.program wires.now }
         ensures job { result ≡ prover_from statement.now inputs.now file.now }
         ensures made { (wires : List ℕ)
             × AreMade statement.now.program statement.now.public inputs.now wires result.given }
@@ -131,7 +131,7 @@ impl<'a> ProverJob<'a> {
             statement,
             file,
             inputs,
-            bits,
+            wires: Some(wires),
         }
     }
 
@@ -183,7 +183,7 @@ impl<'a> ProverJob<'a> {
         self.file.pairs(units_of(grant))
     }
 
-    /// The pairs of a session's correlations are answered by the corrections that make them those of the given values: of the bits of all
+    /// The pairs of a session's correlations are answered by the corrections that make them those of the given values: of the values of all
     /// wires, where these are known, or else of a walk along the program.
     ///
     /// # Errors
@@ -196,9 +196,9 @@ impl<'a> ProverJob<'a> {
             pairs.now d.items (pairs_fixed self.now pairs.now)) }
         ensures one_each { IfOk result (λ d. length d.items ≡ self.now.statement.program.givens) }
     {
-        match self.bits {
+        match self.wires {
             None => self.commit_walked(alloc, grant, pairs),
-            Some(bits) => self.commit_bits(alloc, grant, pairs, bits),
+            Some(wires) => self.commit_known(alloc, grant, pairs, wires),
         }
     }
 
@@ -223,17 +223,17 @@ impl<'a> ProverJob<'a> {
         Ok(corrections)
     }
 
-    /// Does so of bits of all wires.
-    fn commit_bits(
+    /// Does so of values of all wires.
+    fn commit_known(
         &self,
         alloc: Global,
         grant: Grant,
         pairs: &[Pair],
-        bits: &[bool],
+        wires: &WireValues,
     ) -> Result<Vec<Fe>, AllocError>
         requires at_least_one { 1 ≤ grant.section_length }
         requires enough { AreEnough self.now grant.section_length pairs.now }
-        requires bits { AreWitnessBits self.now.given self.now.statement.program bits.now }
+        requires wires { AreWitnessValues self.now.given self.now.statement.program wires.now }
         ensures fixed { IfOk result (λ d. IsFixed self.now.statement self.now.given
             pairs.now d.items (pairs_fixed self.now pairs.now)) }
         ensures one_each { IfOk result (λ d. length d.items ≡ self.now.statement.program.givens) }
@@ -242,7 +242,7 @@ impl<'a> ProverJob<'a> {
         let public = self.statement.public();
         let _givens = program.givens();
         let _count = public.len();
-        let corrections = bit_corrections(alloc, program, bits, pairs)?;
+        let corrections = known_corrections(alloc, program, wires, pairs)?;
         Ok(corrections)
     }
 

@@ -10,10 +10,11 @@ ghost use Rattle.session_rehearsal.specs.Rehearsals.{AboutCause, ArithRehearseCa
 use crate::elements::Elements;
 use crate::rehearsal::{ArithRehearseFault, Rehearsal, RehearseFault};
 use crate::rehearsing::rehearse_about;
-use arith_eval::{ArithEvalFault, eval};
+use arith_eval::{ArithEvalFault, output_elements, satisfying_wires};
+use arith_laws::one_list;
 use arith_reader::Arith;
 use mersenne_field::Fe;
-use session_core::CircuitClaim;
+use session_core::{CircuitClaim, WireValues, computed_elements_prove};
 use std::alloc::Global;
 use std::thread::Threads;
 use zk_model::Kind;
@@ -71,15 +72,19 @@ pub fn rehearse_arith<R: Threads + Sync>(
     ensures done { IfOk result (IsArithRehearsalOf circuit values.now kind section seed.now) }
     ensures cause { IfErr result (ArithRehearseCause circuit values.now kind section) }
 {
+    computed_elements_prove();
+    one_list();
     let _wires = circuit.wires();
-    let outputs = match eval(alloc, &circuit, values) {
-        Ok(outputs) => Elements::new(outputs),
+    let elements = match satisfying_wires(alloc, &circuit, values) {
+        Ok(elements) => elements,
         Err(fault) => return Err(eval_stop(fault)),
     };
+    let outputs = Elements::copied(alloc, output_elements(&circuit, &elements))?;
     let claim = CircuitClaim::of_arith(alloc, circuit, [0; 32], outputs.as_slice())?;
     let statement = claim.statement();
+    let wires = WireValues::Elements(elements);
     match rehearse_about(
-        rt, alloc, &statement, values, None, outputs, kind, section, seed,
+        rt, alloc, &statement, values, &wires, outputs, kind, section, seed,
     ) {
         Ok(rehearsal) => Ok(rehearsal),
         Err(fault) => Err(about_stop(fault)),

@@ -1,7 +1,8 @@
 // A list of elements.
-ghost use Rattle.std.specs.Prelude.{◌≡◌};
+ghost use Rattle.std.specs.Prelude.{◌≡◌, IfOk};
 
 use mersenne_field::Fe;
+use std::alloc::{AllocError, Global};
 use std::marker::Model;
 
 /// A list of elements.
@@ -24,6 +25,14 @@ impl Elements {
         ensures { result ≡ items.items }
     {
         Elements { items }
+    }
+
+    /// The same elements, in memory of their own.
+    pub fn copied(alloc: Global, elements: &[Fe]) -> Result<Self, AllocError>
+        ensures { IfOk result (λ e. e ≡ elements.now) }
+    {
+        let items = elements.to_vec(alloc)?;
+        Ok(Elements { items })
     }
 
     /// The elements, in order.

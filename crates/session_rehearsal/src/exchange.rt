@@ -10,7 +10,7 @@ ghost use Rattle.wire_auth.specs.Held.{items_in};
 ghost use Rattle.wire_auth.specs.Values.{given_made};
 ghost use Rattle.session_core.specs.Ends.{whole_grant};
 ghost use Rattle.session_core.specs.Jobs as jobs;
-ghost use Rattle.session_core.specs.Jobs.{AreWitnessBits, units_of_job, granted_from, prover_from};
+ghost use Rattle.session_core.specs.Jobs.{AreWitnessValues, units_of_job, granted_from, prover_from};
 ghost use Rattle.session_core.specs.Fixing.{HoldsKeys, IsFixedUnder};
 ghost use Rattle.session_core.specs.Judgements.{AreLeftSides};
 ghost use Rattle.session_rehearsal.specs.Exchanges.{IsExchangeNoted, IsShortExchange, AreShort, round_log};
@@ -22,8 +22,8 @@ use mersenne_field::{Fe, Pair};
 use proof_frames::{Frame, Grant, Hello};
 use round_fan::{SESSION_WORKERS, fan_prover, fan_verifier};
 use session_core::{
-    Correlations, LeftSides, OneThread, Opened, ProverJob, Statement, VerifierJob, ask_frames,
-    ask_lists, reply_frames, units_of,
+    Correlations, LeftSides, OneThread, Opened, ProverJob, Statement, VerifierJob, WireValues,
+    ask_frames, ask_lists, reply_frames, units_of,
 };
 use session_laws::{asks_are_in_range, replies_are_in_range};
 use std::alloc::{AllocError, Global};
@@ -67,21 +67,21 @@ pub(crate) struct OpenedSession {
     pub(crate) opened: Opened,
 }
 
-/// A session of both ends over all units of their files. The prover's file is given up once it has answered the challenge. Where there are
-/// bits, all wires have them, at these inputs.
+/// A session of both ends over all units of their files. The prover's file is given up once it has answered the challenge. All wires have
+/// these values, at these inputs.
 pub(crate) fn run_session<R: Threads + Sync>(
     rt: &R,
     alloc: Global,
     statement: &Statement<'_>,
     inputs: &[Fe],
-    bits: Option<&[bool]>,
+    wires: &WireValues,
     prover_file: ProverFile,
     verifier_file: &VerifierFile,
     section: u32,
 ) -> Result<SessionValues, AllocError>
     requires inputs { length inputs.now ≡ statement.now.program.inputs }
-    requires bits { IfSome bits (λ bits. AreWitnessBits
-        (given_made statement.now.program statement.now.public inputs.now) statement.now.program bits.now) }
+    requires wires { AreWitnessValues
+        (given_made statement.now.program statement.now.public inputs.now) statement.now.program wires.now }
     requires dealt { AreDealt prover_file verifier_file.now }
     requires granted { IsGrant prover_file.params statement.now.program
         (whole_grant prover_file.params.total section) }
@@ -91,7 +91,7 @@ pub(crate) fn run_session<R: Threads + Sync>(
     ensures short { IfOk result IsShortExchange }
 {
     let verifier = VerifierJob::new(statement, verifier_file, section);
-    let answered = answer(rt, alloc, statement, inputs, bits, &prover_file, &verifier)?;
+    let answered = answer(rt, alloc, statement, inputs, wires, &prover_file, &verifier)?;
     drop(prover_file);
     let exchange = judge(&verifier, answered);
     Ok(exchange)
@@ -103,13 +103,13 @@ fn answer<R: Threads + Sync>(
     alloc: Global,
     statement: &Statement<'_>,
     inputs: &[Fe],
-    bits: Option<&[bool]>,
+    wires: &WireValues,
     prover_file: &ProverFile,
     verifier: &VerifierJob<'_>,
 ) -> Result<OpenedSession, AllocError>
     requires inputs { length inputs.now ≡ statement.now.program.inputs }
-    requires bits { IfSome bits (λ bits. AreWitnessBits
-        (given_made statement.now.program statement.now.public inputs.now) statement.now.program bits.now) }
+    requires wires { AreWitnessValues
+        (given_made statement.now.program statement.now.public inputs.now) statement.now.program wires.now }
     requires stated { statement.now ≡ verifier.now.task.statement }
     requires dealt { AreDealt prover_file.now verifier.now.task.file }
     requires within { units_of_job verifier.now ≤ verifier.now.task.file.params.total }
@@ -117,7 +117,7 @@ fn answer<R: Threads + Sync>(
         (IsAnswered (prover_from statement.now inputs.now prover_file.now) verifier.now) }
     ensures counted { IfOk result (IsCounted verifier.now) }
 {
-    let prover = ProverJob::with_bits(statement, prover_file, inputs, bits);
+    let prover = ProverJob::with_wires(statement, prover_file, inputs, wires);
     let grant = verifier.grant(0);
     let established = establish(rt, alloc, &prover, verifier, grant)?;
     let answered = open(rt, alloc, &prover, verifier, grant, established)?;

@@ -11,7 +11,7 @@ ghost use Rattle.zk_model.specs.declared.Side.{Side};
 ghost use Rattle.wire_auth.specs.Values.{given_made};
 ghost use Rattle.session_core.specs.Ends.{whole_grant};
 ghost use Rattle.session_rehearsal.specs.Exchanges.{IsExchangeNoted, IsShortExchange};
-ghost use Rattle.session_core.specs.Jobs.{AreWitnessBits};
+ghost use Rattle.session_core.specs.Jobs.{AreWitnessValues};
 ghost use Rattle.session_rehearsal.specs.Holding.{IsRehearsedSession, ends_with};
 ghost use Rattle.session_rehearsal.specs.Rehearsals.{AboutCause, IsRehearsalAbout, IsRehearsalOf, RehearseCause, AreRehearsedFiles, rehearsed_params};
 ghost use Rattle.zk_model.specs.declared.limits.TheConstants.{MAX_SECTION_LENGTH, MAX_UNITS};
@@ -25,7 +25,7 @@ use bristol_reader::Circuit;
 use circuit_laws::{bits_solve, one_outcome};
 use dealer_files::deal;
 use mersenne_field::Fe;
-use session_core::{CircuitClaim, Statement, elements_of, units_for};
+use session_core::{CircuitClaim, Statement, WireValues, elements_of, units_for};
 use std::alloc::{AllocError, Global};
 use std::thread::Threads;
 use wire_auth::bits_make_products;
@@ -56,7 +56,7 @@ fn exchange_dealt<R: Threads + Sync>(
     alloc: Global,
     statement: &Statement<'_>,
     inputs: &[Fe],
-    bits: Option<&[bool]>,
+    wires: &WireValues,
     kind: Kind,
     section: u32,
     units: u64,
@@ -65,8 +65,8 @@ fn exchange_dealt<R: Threads + Sync>(
     requires at_least_one { 1 ≤ section }
     requires at_most { section ≤ MAX_SECTION_LENGTH }
     requires inputs { length inputs.now ≡ statement.now.program.inputs }
-    requires bits { IfSome bits (λ bits. AreWitnessBits
-        (given_made statement.now.program statement.now.public inputs.now) statement.now.program bits.now) }
+    requires wires { AreWitnessValues
+        (given_made statement.now.program statement.now.public inputs.now) statement.now.program wires.now }
     requires units { units
         ≡ units_for (rehearsed_params kind 0) (correlations_needed statement.now.program section) }
     requires units_some { 1 ≤ units }
@@ -82,19 +82,19 @@ fn exchange_dealt<R: Threads + Sync>(
     let params = rehearsed_params(kind, units);
     let (prover, verifier) = deal(alloc, &params, seed)?;
     let exchange = run_session(
-        rt, alloc, statement, inputs, bits, prover, &verifier, section,
+        rt, alloc, statement, inputs, wires, prover, &verifier, section,
     )?;
     Ok(exchange)
 }
 
 /// A rehearsal about a statement, whose prover has these values of its inputs: the seed's files of this kind, as many units as the session
-/// takes, and both ends over a log. Where there are bits, all wires have them.
+/// takes, and both ends over a log. All wires have the values that are given beside them.
 pub(crate) fn rehearse_about<R: Threads + Sync, O: Drop>(
     rt: &R,
     alloc: Global,
     statement: &Statement<'_>,
     inputs: &[Fe],
-    bits: Option<&[bool]>,
+    wires: &WireValues,
     outputs: O,
     kind: Kind,
     section: u32,
@@ -103,8 +103,8 @@ pub(crate) fn rehearse_about<R: Threads + Sync, O: Drop>(
     requires at_least_one { 1 ≤ section }
     requires at_most { section ≤ MAX_SECTION_LENGTH }
     requires inputs { length inputs.now ≡ statement.now.program.inputs }
-    requires bits { IfSome bits (λ bits. AreWitnessBits
-        (given_made statement.now.program statement.now.public inputs.now) statement.now.program bits.now) }
+    requires wires { AreWitnessValues
+        (given_made statement.now.program statement.now.public inputs.now) statement.now.program wires.now }
     ensures outputs { IfOk result (λ r. r.outputs ≡ outputs) }
     ensures done { IfOk result (λ r. (wires given : List ℕ)
         → IsWitness statement.now inputs.now wires given
@@ -121,7 +121,7 @@ pub(crate) fn rehearse_about<R: Threads + Sync, O: Drop>(
         return Err(RehearseFault::TooLarge { need, units });
     }
     let exchange = exchange_dealt(
-        rt, alloc, statement, inputs, bits, kind, section, units, seed,
+        rt, alloc, statement, inputs, wires, kind, section, units, seed,
     )?;
     let log = note(alloc, &exchange)?;
     Ok(Rehearsal {
@@ -194,9 +194,9 @@ pub fn rehearse<R: Threads + Sync>(
     let claim = CircuitClaim::new(alloc, circuit, [0; 32], public, outputs.as_slice())?;
     let inputs = elements_of(alloc, bits)?;
     let statement = claim.statement();
-    let known = Some(wires.as_slice());
+    let wires = WireValues::Bits(wires);
     let rehearsal = rehearse_about(
-        rt, alloc, &statement, &inputs, known, outputs, kind, section, seed,
+        rt, alloc, &statement, &inputs, &wires, outputs, kind, section, seed,
     )?;
     Ok(rehearsal)
 }

@@ -83,24 +83,15 @@ product_bit bits product = from_bit (bit_of bits product.a && bit_of bits produc
 pub length-bits_of_products : (products : List Product) (bits : List Bool) → length (bits_of_products products bits) ≡ length products
 length-bits_of_products products bits = length-map products (product_bit bits)
 
-bits_are_elements : (products : List Product) (bits : List Bool) → All IsElement (bits_of_products products bits)
+pub bits_are_elements : (products : List Product) (bits : List Bool) → All IsElement (bits_of_products products bits)
 bits_are_elements products bits = All-map IsElement (product_bit bits) products (λ k d below. bit_element _)
 
--- Where inputs make the products of bits, corrections that are made of the bits are those of a walk.
-pub bits_walked : (program : Program) (public inputs : List ℕ) (bits : List Bool) (corrections : List ℕ) (dealt : List Pair)
-    → given_made program public inputs ≡ bits_of_products program.products bits
-    → corrections ≡ honest_corrections (bits_of_products program.products bits) dealt
+-- Corrections to given values, however these are known, are those of a walk where it makes the same
+pub known_walked : (program : Program) (public inputs given corrections : List ℕ) (dealt : List Pair)
+    → given_made program public inputs ≡ given → All IsElement given → corrections ≡ honest_corrections given dealt
     → (corrections ≡ honest_corrections (given_made program public inputs) dealt)
     × ((side_made program public inputs dealt).pairs.given ≡ corrected_pairs dealt corrections)
 unfolding given_made
-bits_walked program public inputs bits corrections dealt made are =
+known_walked program public inputs given corrections dealt made elements are =
     let walked = are ∙ ap (λ (l : List ℕ). honest_corrections l dealt) (sym made) in
-    (walked, walked_given program public inputs corrections dealt (subst (All IsElement) (sym made) (bits_are_elements program.products bits)) walked)
-
--- and there is one for each given value
-pub bits_for_all : (program : Program) (public inputs : List ℕ) (bits : List Bool) → IsSmallProgram program
-    → given_made program public inputs ≡ bits_of_products program.products bits → length program.products ≡ program.givens
-unfolding given_made
-bits_for_all program public inputs bits held made =
-    sym (length-bits_of_products program.products bits) ∙ ap length (sym made)
-    ∙ length-given_from program (wires_made program public inputs) held.counted
+    (walked, walked_given program public inputs corrections dealt (subst (All IsElement) (sym made) elements) walked)

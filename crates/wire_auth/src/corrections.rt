@@ -33,9 +33,13 @@ fn given_at(program: &FieldProgram, values: &[Fe], i: usize) -> Fe
     }
 }
 
-/// The corrections that turn dealt pairs into ones of the given values that values of all wires make: for each the value less
-/// the dealt one.
-pub(crate) fn corrections(
+/// The corrections that turn dealt pairs into those of the given values that values of all wires make: for each the value less the
+/// dealt one. Where they are the values that a circuit computes, the corrections are those that `walk_corrections` makes.
+///
+/// # Errors
+///
+/// Only where memory runs out.
+pub fn value_corrections(
     alloc: Global,
     program: &FieldProgram,
     values: &[Fe],

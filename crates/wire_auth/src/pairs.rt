@@ -8,7 +8,7 @@ ghost use Rattle.wire_auth.specs.Held.{items_in};
 ghost use Rattle.zk_model.specs.declared.Product as zk;
 
 use crate::carrying::{begun, follow, known};
-use crate::corrections::corrections;
+use crate::corrections::value_corrections;
 use crate::correlations::Correlations;
 use crate::triples::Triple;
 use crate::values::{carry_values, given_value};
@@ -87,7 +87,7 @@ impl<'a> ProverWires<'a> {
         ensures carried { IfOk result (λ r. ArePairsOf program.now public.now r.0.pairs) }
     {
         let values = carry_values(alloc, program, public, inputs)?;
-        let corrections = corrections(alloc, program, &values, dealt.as_slice())?;
+        let corrections = value_corrections(alloc, program, &values, dealt.as_slice())?;
         let given = macs_of(alloc, &dealt.as_slice()[..program.givens()])?;
         let begun = begun(alloc, program, public, Fe::ZERO, &given[..program.inputs()])?;
         let macs = follow(program, Fe::ZERO, &given, begun);

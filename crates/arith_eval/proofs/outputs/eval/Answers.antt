@@ -1,23 +1,26 @@
-use Rattle.std.proofs.Common.{◌≡◌, List, ℕ, drop, sym, subst, arith}
+use Rattle.std.proofs.Common.{◌≡◌, ◌∙◌, length, drop, ap, sym, arith, length-drop}
 use Rattle.std.proofs.lemmas.Grind.{common_steps}
-use Rattle.zk_model.specs.Arithmetic.{SatisfiesElements, asserted, first_output}
-use Rattle.arith_eval.specs.Answers.{AreZero, IsCause, IsUnmet}
-use Rattle.arith_eval.proofs.Asserting.{satisfied, unsatisfied}
+use Rattle.zk_model.specs.Arithmetic.{SatisfiesElements, first_output}
+use Rattle.arith_eval.proofs.Asserting.{sized}
+use Rattle.arith_reader.proofs.Exits.{raised}
+use Rattle.arith_eval.specs.Answers.{IsCause}
+use Rattle.arith_eval.specs.declared.fault.ArithEvalFault.TheVariants.{NoMemory}
 use Rattle.arith_eval.proofs.outputs.eval.Goals as goal
+
+pub returns-in_err-outputs-clause-cause : goal.returns-in_err-outputs-clause-cause
+returns-in_err-outputs-clause-cause c =
+    raised (IsCause c.args.circuit.now c.args.values.now) c.from_residual-in_err-outputs.result NoMemory
+    c.from_residual-in_err-outputs.ensures.1
+    (sized c.args.circuit.now c.args.values.now c.in_ok-elements.elements.items c.wires-wires.ensures.rules.well_formed c.in_ok-elements.ensures.wires.computed)
 
 pub returns-clause-only : goal.returns-clause-only
 returns-clause-only c =
-    let circuit = c.args.circuit.now in
-    let values = c.args.values.now in
-    let last : c.in_ok-outputs.outputs.items ≡ drop (first_output circuit) c.in_ok-elements.elements.items = grind (arith, common_steps) in
-    let zeros : AreZero c.in_ok-elements.elements.items (asserted circuit) =
-    subst (λ (l : List ℕ). AreZero l (asserted circuit)) c.deref.ensures.value c.in_default.ensures.none in
-    let gives : SatisfiesElements circuit values c.in_ok-outputs.outputs.items =
-    satisfied circuit values c.in_ok-elements.elements.items c.in_ok-outputs.outputs.items c.in_ok-elements.ensures.computed zeros last in
-    λ others by. c.one_list.ensures circuit values others c.in_ok-outputs.outputs.items c.wires.ensures.rules.well_formed by gives
+    let last : c.in_ok-outputs.outputs.items ≡ drop (first_output c.args.circuit.now) c.in_ok-elements.elements.items = grind (arith, common_steps) in
+    let gives : SatisfiesElements c.args.circuit.now c.args.values.now c.in_ok-outputs.outputs.items = (c.in_ok-elements.elements.items, c.in_ok-elements.ensures.wires, sym last) in
+    λ others by. c.one_list.ensures c.args.circuit.now c.args.values.now others c.in_ok-outputs.outputs.items c.wires-wires.ensures.rules.well_formed by gives
 
-pub returns-in-Some-clause-cause : goal.returns-in-Some-clause-cause
-returns-in-Some-clause-cause c =
-    subst (IsCause c.args.circuit.now c.args.values.now) (sym c.assert_failed.ensures)
-    (unsatisfied c.args.circuit.now c.args.values.now c.in_ok-elements.elements.items c.in-Some.unmet c.unmet_is_unsatisfied.ensures c.wires.ensures.rules.well_formed
-    c.in_ok-elements.ensures.computed (subst (λ (l : List ℕ). IsUnmet c.args.circuit.now l c.in-Some.unmet) c.deref.ensures.value c.in-Some.ensures.unmet))
+pub returns-clause-count : goal.returns-clause-count
+returns-clause-count c =
+    let last : c.in_ok-outputs.outputs.items ≡ drop (first_output c.args.circuit.now) c.in_ok-elements.elements.items = grind (arith, common_steps) in
+    ap length last ∙ length-drop (first_output c.args.circuit.now) c.in_ok-elements.elements.items
+    ∙ omega (arith, c.in_ok-elements.ensures.wires.computed.whole, c.wires-wires.ensures.rules.well_formed.outputs_within)

@@ -1,5 +1,4 @@
 use Rattle.std.proofs.Common.{List, ℕ, inr, subst}
-use Rattle.std.specs.Option.{option_map}
 use Rattle.zk_model.specs.declared.Side.TheVariants.{Prover}
 use Rattle.zk_port.specs.Changes.{change}
 use Rattle.zk_port.specs.Shelves.{ShelfState}
@@ -15,8 +14,8 @@ returns-in_err-file-clause-stop g c =
     let witness = c.in_ok-witness.witness in
     let why = c.in_err-file.field-0.0 in
     fails_at _ c.from_residual-in_err-file.result why c.from_residual-in_err-file.ensures.1 (inr (
-      subst (IsTrueClaim told) c.names-names.ensures (true_claim told c.names-names.result.now witness.claim witness.inputs.items
-          (option_map (λ bits. bits.items) witness.wires) c.in_ok-witness.ensures.witness),
+      subst (IsTrueClaim told) c.names-names.ensures (true_claim told c.names-names.result.now witness.claim witness.inputs.items witness.wires
+          c.in_ok-witness.ensures.witness),
       subst (λ (q : ShelfState × List ℕ). FileStop Prover q.1 (change q.0 (g.F.Shelf.state c.load_prover.new.shelf)) why)
           (λ i. (c.in_ok-witness.ensures.quiet i, c.file-name.ensures i)) c.in_err-file.ensures.stop,
     ))

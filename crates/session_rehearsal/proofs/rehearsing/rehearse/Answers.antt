@@ -24,17 +24,16 @@ rehearse_about-requires-clause-inputs g c κs within =
     ap length (c.deref-2.ensures.value ∙ c.in_ok-inputs.ensures) ∙ length-map c.args.bits.now from_bit
     ∙ c.in_ok-wires.ensures.length ∙ sym (ap (λ (s : Statement). s.program.inputs) (c.statement-statement.ensures ∙ c.in_ok-claim.ensures))
 
-pub rehearse_about-requires-clause-bits : goal.rehearse_about-requires-clause-bits
-rehearse_about-requires-clause-bits g c κs within =
+pub rehearse_about-requires-clause-wires : goal.rehearse_about-requires-clause-wires
+rehearse_about-requires-clause-wires g c κs within =
     let claim = c.statement-statement.ensures ∙ c.in_ok-claim.ensures in
     let inputs = c.deref-2.ensures.value ∙ c.in_ok-inputs.ensures in
-    let bits = c.as_slice-2.ensures.value in
     record {
-      whole = ap length bits ∙ c.in_ok-wires.ensures.wires.whole ∙ sym (ap (λ (s : Statement). s.program.wires) claim);
+      whole = c.in_ok-wires.ensures.wires.whole ∙ sym (ap (λ (s : Statement). s.program.wires) claim);
       made = (λ i. given_made (claim i).program (claim i).public (inputs i))
           ∙ made_products c.args.circuit c.args.public.now c.args.bits.now c.in_ok-wires.wires.items c.bits_make_products.ensures
           c.wires-wires.ensures.rules.well_formed c.requires.public c.in_ok-wires.ensures.wires
-          ∙ (λ i. bits_of_products (sym claim i).program.products (sym bits i));
+          ∙ (λ i. bits_of_products (sym claim i).program.products c.in_ok-wires.wires.items);
     }
 
 pub returns-in_err-rehearsal-clause-cause : goal.returns-in_err-rehearsal-clause-cause

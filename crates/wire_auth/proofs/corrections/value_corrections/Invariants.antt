@@ -3,7 +3,7 @@ use Rattle.std.specs.Prelude.{slice_index}
 use Rattle.zk_model.specs.Field.{IsElement}
 use Rattle.zk_model.specs.HonestProver.{honest_corrections}
 use Rattle.wire_auth.specs.Values.{given_from}
-use Rattle.wire_auth.proofs.corrections.corrections.Given as goal
+use Rattle.wire_auth.proofs.corrections.value_corrections.Given as goal
 
 abbrev pub invariant-loop-i : goal.invariant-loop-i
 invariant-loop-i l = record {

@@ -2,13 +2,13 @@ use Rattle.std.proofs.Common.{subst}
 use Rattle.field_program.specs.Programs.{IsSmallProgram}
 use Rattle.wire_auth.specs.Values.{wires_made}
 use Rattle.session_core.proofs.Proving.{job_made}
-use Rattle.session_core.proofs.prover_job.ProverJob.with_bits.Goals as goal
+use Rattle.session_core.proofs.prover_job.ProverJob.with_wires.Goals as goal
 
 pub invariant_of-result : goal.invariant_of-result
 invariant_of-result c = (
   record { counted = (job_made c.args.statement.now c.args.inputs.now c.program.ensures.stated (subst IsSmallProgram c.program.ensures.program c.givens-givens.ensures.held) c.requires.inputs).count },
   c.requires.inputs,
-  c.requires.bits,
+  c.requires.wires,
 )
 
 pub returns-clause-made : goal.returns-clause-made

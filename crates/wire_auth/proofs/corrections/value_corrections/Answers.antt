@@ -8,7 +8,7 @@ use Rattle.wire_auth.specs.Values.{given_from}
 use Rattle.wire_auth.proofs.Correcting.{one_more, all_made}
 use Rattle.wire_auth.proofs.Lengths.{next_correction}
 use Rattle.wire_auth.proofs.Making.{length-given_from}
-use Rattle.wire_auth.proofs.corrections.corrections.Goals as goal
+use Rattle.wire_auth.proofs.corrections.value_corrections.Goals as goal
 
 pub loop-i-preserved : goal.loop-i-preserved
 loop-i-preserved c =
