@@ -1,11 +1,9 @@
 -- What is read of the next token.
-use Rattle.std.specs.Prelude.{◌≡◌, ℕ, ◌<◌, Bool, false, Ok, Err, List, [], ◌∷◌, codes, length, min, slice_index_or}
+use Rattle.std.specs.Prelude.{◌≡◌, ℕ, ◌<◌, Bool, false, Ok, Err, List, [], ◌∷◌, length, min, slice_index_or}
 use Rattle.zk_model.specs.Bristol.{Lexeme, name, number}
-use Rattle.zk_model.specs.declared.ArithName.{ArithName}
-use Rattle.zk_model.specs.declared.ArithName.TheVariants as gate
 use Rattle.zk_model.specs.declared.ReadFault.{ReadFault}
 use Rattle.zk_model.specs.declared.ReadFault.TheVariants.{BadNumber, ExtraText, ShortText}
-use Rattle.text_tokens.specs.Words.{greatest, left_of, Takes}
+use Rattle.text_tokens.specs.Words.{greatest, Takes}
 use Rattle.zk_model.specs.Arithmetic.{Arith, is_set}
 use Rattle.zk_model.specs.ArithFaults.{Judge, Place, next, read_of, set_of}
 use Rattle.arith_reader.specs.declared.wants.Placed.{Placed}
@@ -30,18 +28,6 @@ pub data IsNoNumber (before : Place) (fault : ReadFault) : Type 0 where
   at_end : before.left ≡ [] → fault ≡ ShortText before.taken → IsNoNumber before fault
   a_name : (text : List ℕ) (left : List Lexeme) → before.left ≡ name text ∷ left → fault ≡ BadNumber before.taken
       → IsNoNumber before fault
-
--- the letters of a gate's name
-abbrev pub name_text : ArithName → List ℕ
-name_text gate.Add = codes "ADD"
-name_text gate.Mul = codes "MUL"
-name_text gate.Const = codes "CONST"
-name_text gate.Assert = codes "ASSERT"
-
--- the first token of a text is the name of this gate, and this is the text after it
-pub record StartsName (text : List ℕ) (of : ArithName) (behind : List ℕ) : Type 0 where
-  pub shorter : length behind < length text
-  pub left : left_of text ≡ name (name_text of) ∷ left_of behind
 
 -- a token stands there where none is to be
 pub record IsExtra (before : Place) (fault : ReadFault) : Type 0 where

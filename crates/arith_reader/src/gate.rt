@@ -5,6 +5,7 @@ ghost use Rattle.zk_model.specs.declared.ArithName.TheVariants as name;
 ghost use Rattle.packed_gates.specs.PackedRows.{HasElement};
 ghost use Rattle.arith_reader.specs.Rows.{GivesBehind, GivesRow, GivesPair, IsWithin, RefusesBehind, RefusesRow, RefusesPair};
 
+use crate::lines::take_line;
 use crate::wants::{constant, gate_name, read_wire, set_wire};
 use text_tokens::Tokens;
 use zk_model::{ArithName, ArithRow, ReadFault};
@@ -70,9 +71,9 @@ fn read_behind(tokens: &mut Tokens, set: &[bool], of: ArithName) -> Result<Arith
     }
 }
 
-/// Takes the tokens of a gate.
-#[inline(always)]
-pub fn read_row(tokens: &mut Tokens, set: &[bool]) -> Result<ArithRow, ReadFault>
+/// Takes the tokens of a gate, one after another.
+#[inline(never)]
+fn read_tokens(tokens: &mut Tokens, set: &[bool]) -> Result<ArithRow, ReadFault>
     requires { length set.now ≤ MAX_WIRES }
     ensures row { IfOk result (GivesRow set.now tokens.old tokens.new) }
     ensures fault { IfErr result (RefusesRow set.now tokens.old) }
@@ -82,4 +83,19 @@ pub fn read_row(tokens: &mut Tokens, set: &[bool]) -> Result<ArithRow, ReadFault
     let of = gate_name(tokens)?;
     let row = read_behind(tokens, set, of)?;
     Ok(row)
+}
+
+/// Takes the tokens of a gate: its line at once, if it is plain.
+#[inline(always)]
+pub fn read_row(tokens: &mut Tokens, set: &[bool]) -> Result<ArithRow, ReadFault>
+    requires { length set.now ≤ MAX_WIRES }
+    ensures row { IfOk result (GivesRow set.now tokens.old tokens.new) }
+    ensures fault { IfErr result (RefusesRow set.now tokens.old) }
+    ensures within { IfOk result (IsWithin (length set.now)) }
+    ensures element { IfOk result HasElement }
+{
+    if let Some(row) = take_line(tokens, set) {
+        return Ok(row);
+    }
+    read_tokens(tokens, set)
 }

@@ -1,7 +1,8 @@
 //! Arithmetic circuits: gates over the integers modulo 2^61 - 1, read from a text.
 //!
 //! `reader` has `read`; `circuit` what it gives, `fault` why not. `header`, `gate` and `body` read the counts, one gate and all gates,
-//! by `wants` where a token of one kind must come next. `laws` says that a text says a circuit exactly where it has no fault.
+//! by `wants` where a token of one kind must come next; `lines` reads plain lines at once. `laws` says that a text says a circuit
+//! exactly where it has no fault.
 //!
 //!     let circuit = read(alloc, &text)?; // or ReadError::Fault, such as ReadFault::ShortText { token: 2 }
 #![tactic(auto)]
@@ -12,6 +13,7 @@ mod fault;
 mod gate;
 mod header;
 mod laws;
+mod lines;
 mod reader;
 mod wants;
 

@@ -1,10 +1,10 @@
 // The next token, where a number or a name of a kind is wanted.
-ghost use Rattle.std.specs.Prelude.{◌≡◌, ◌≤◌, ◌<◌, ◌^◌, true, IfOk, IfErr, IfSome, [], length};
+ghost use Rattle.std.specs.Prelude.{◌≡◌, ◌≤◌, ◌<◌, ◌^◌, IfOk, IfErr, [], length};
 ghost use Rattle.zk_model.specs.Field.{prime};
 ghost use Rattle.zk_model.specs.Bristol.{name};
 ghost use Rattle.zk_model.specs.declared.limits.TheConstants.{MAX_WIRES};
 ghost use Rattle.zk_model.specs.ArithFaults.{constant_of, count_of, name_of, size_of};
-ghost use Rattle.arith_reader.specs.Wants.{Gives, Refuses, GivesRead, GivesSet, RefusesRead, RefusesSet, IsExtra, IsNoNumber, StartsName, TakesPlaced};
+ghost use Rattle.arith_reader.specs.Wants.{Gives, Refuses, GivesRead, GivesSet, RefusesRead, RefusesSet, IsExtra, IsNoNumber, TakesPlaced};
 
 use text_tokens::{Next, Tokens};
 use zk_model::{ArithName, ReadFault};
@@ -128,39 +128,12 @@ fn named(word: &[u8], token: u64) -> Result<ArithName, ReadFault>
     }
 }
 
-/// Whether two texts of four bytes are the same, of which all bytes are compared at once.
-#[inline(always)]
-fn are_same(some: &[u8; 4], other: &[u8; 4]) -> bool
-    ensures { result ≡ true → some.now ≡ other.now }
-{
-    u32::from_le_bytes(*some) == u32::from_le_bytes(*other)
-}
-
-/// The name of a gate that reads two wires, if a text begins with it and a space, as most lines do, and the text after these.
-#[inline(always)]
-fn plain_name(text: &[u8]) -> Option<(ArithName, &[u8])>
-    ensures { IfSome result (λ r. StartsName text.now r.0 r.1.now) }
-{
-    let (front, behind) = text.split_first_chunk::<4>()?;
-    if are_same(front, b"MUL ") {
-        return Some((ArithName::Mul, behind));
-    }
-    if are_same(front, b"ADD ") {
-        return Some((ArithName::Add, behind));
-    }
-    None
-}
-
 /// The name of a gate.
 #[inline(always)]
 pub fn gate_name(tokens: &mut Tokens) -> Result<ArithName, ReadFault>
     ensures name { IfOk result (Gives name_of tokens.old tokens.new) }
     ensures fault { IfErr result (Refuses name_of tokens.old) }
 {
-    if let Some((of, behind)) = plain_name(tokens.rest()) {
-        tokens.move_on(1, behind);
-        return Ok(of);
-    }
     let token = tokens.taken();
     match tokens.next() {
         Next::End => Err(ReadFault::ShortText { token }),
