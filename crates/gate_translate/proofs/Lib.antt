@@ -1,3 +1,4 @@
 pub mod Translating
 pub mod Splitting
+pub mod NoAssertions
 pub mod ArithTranslating

@@ -1,7 +1,8 @@
 -- Rules of arithmetic gates: those of steps, and assertions.
-use Rattle.std.specs.Prelude.{ℕ, List, [], ◌∷◌, flat_map}
+use Rattle.std.specs.Prelude.{◌≡◌, ℕ, ◌+◌, List, [], ◌∷◌, flat_map, length}
 use Rattle.packed_gates.specs.declared.packed.PackedStep.{PackedStep}
 use Rattle.packed_gates.specs.declared.packed.PackedStep.TheVariants.{Bit, Copy, Not, Mul, XorFrom, Sum, Const, Assert}
+use Rattle.packed_gates.specs.declared.packed.Tables.{Tables}
 
 -- a rule, if it is one of a step
 abbrev pub step_rule : PackedStep → List PackedStep
@@ -32,3 +33,8 @@ steps_among rules = flat_map step_rule rules
 -- the wires that these assert, in order
 abbrev pub asserted_among : List PackedStep → List ℕ
 asserted_among rules = flat_map rule_asserted rules
+
+-- the rule of each step has an entry of its own in the tables, and an assertion has none
+abbrev pub AreTabled : List PackedStep → Tables → Type 0
+AreTabled rules tables =
+    length (steps_among rules) ≡ length tables.factors.items + length tables.sums.items + length tables.constants.items
