@@ -1,5 +1,5 @@
 -- Lines of gates that are read at once.
-use Rattle.std.proofs.Common.{◌≡◌, Bor, ℕ, ◌+◌, ◌<◌, ◌≤◌, nat_lt, false, Bool, List, [], ◌∷◌, ◌++◌, map, length, take, drop, refl, ap, sym, ◌∙◌, subst, arith, lt-ltb}
+use Rattle.std.proofs.Common.{◌≡◌, Bor, ℕ, ◌+◌, ◌^◌, ◌<◌, ◌≤◌, nat_lt, false, Bool, List, [], ◌∷◌, ◌++◌, map, length, take, drop, refl, ap, sym, ◌∙◌, subst, arith, lt-ltb, add-zero}
 use Rattle.std.specs.Prelude.{Ok, Result}
 use Rattle.std.proofs.lemmas.List.{take-append-drop}
 use Rattle.std.proofs.lemmas.List.Elements.{All-cons, All-nil}
@@ -16,7 +16,7 @@ use Rattle.text_tokens.specs.Scans.{StartsNumber}
 use Rattle.text_tokens.specs.Words.{left_of, place_of}
 use Rattle.arith_reader.specs.declared.lines.PairName.{PairName}
 use Rattle.arith_reader.specs.declared.lines.PairName.TheVariants as pair
-use Rattle.arith_reader.specs.Lines.{IsFree, IsSet, StartsName, pair_row, pair_text}
+use Rattle.arith_reader.specs.Lines.{IsFree, IsNameAt, IsSet, StartsName, pair_row, pair_text}
 use Rattle.arith_reader.specs.Rows.{GivesRow, IsWithin}
 use Rattle.arith_reader.specs.Wants.{AreFlags}
 use Rattle.arith_reader.proofs.SetWires.{chosen, other}
@@ -55,12 +55,18 @@ chosen_name text front behind named choice of parts same is first wants =
     subst (λ (n : PairName). StartsName text (pair_text n) behind) (sym (ap (λ (q : PairName × Bor (List ℕ)). q.0) is ∙ first))
     (starts_name text front behind of parts (same ∙ ap (λ (q : PairName × Bor (List ℕ)). q.1.now) is ∙ wants))
 
--- the same behind blanks
-pub name_after : (text start of behind : List ℕ) → tokens start ≡ tokens text → length start ≤ length text → StartsName start of behind → StartsName text of behind
-name_after text start of behind same within starts = record {
-  shorter = omega (arith, starts.shorter);
-  left = left_same text start (sym same) ∙ starts.left;
+-- at a place, where the text is, or behind blanks
+pub name_at : (at : Place) (text start of behind : List ℕ) → at.left ≡ left_of text → at.taken + length text < 2 ^ 64 → tokens start ≡ tokens text → length start ≤ length text
+    → StartsName start of behind → IsNameAt at of behind
+name_at at text start of behind stands fits same within starts = record {
+  fits = omega (arith, fits, within, starts.shorter);
+  left = stands ∙ left_same text start (sym same) ∙ starts.left;
 }
+
+-- what is left behind blanks is the same
+pub blanks_passed : (at after : Place) (text start : List ℕ) → at.left ≡ left_of text → after ≡ place_of start (at.taken + 0) → tokens start ≡ tokens text → after ≡ at
+blanks_passed at after text start stands to same =
+    to ∙ (λ i. record { left = (sym (left_same text start (sym same)) ∙ sym stands) i; taken = add-zero at.taken i })
 
 -- ---- a gate
 
@@ -131,12 +137,12 @@ behind_named : (of : PairName) (begun : Arith) (place : Place) → row_behind be
 behind_named pair.Add begun place = refl
 behind_named pair.Mul begun place = refl
 
-pub line_gives : (flags : List Bool) (before after : Place) (text wires behind : List ℕ) (of : PairName) (a b out : ℕ) (row : ArithRow) → before.left ≡ left_of text
-    → StartsName text (pair_text of) wires → StartsWires flags wires a b out behind → after ≡ place_of behind (before.taken + 4) → row ≡ pair_row of a b out
+pub line_gives : (flags : List Bool) (before after : Place) (wires behind : List ℕ) (of : PairName) (a b out : ℕ) (row : ArithRow) → IsNameAt before (pair_text of) wires
+    → StartsWires flags wires a b out behind → after ≡ place_of behind (before.taken + 4) → row ≡ pair_row of a b out
     → GivesRow flags before after row
-line_gives flags before after text wires behind of a b out row stands starts three to is = λ begun are.
+line_gives flags before after wires behind of a b out row starts three to is = λ begun are.
     joined (next name_of before) (λ o second. row_behind begun o second) (gate_of of) (place_of wires (before.taken + 1))
-    (ap (λ (left : List Lexeme). first_judged name_of left before.taken) (stands ∙ starts.left)
+    (ap (λ (left : List Lexeme). first_judged name_of left before.taken) starts.left
     ∙ ap (λ (r : Result ArithName ReadFault). judged_behind (place_of wires (before.taken + 1)) r) (named of before.taken))
     ∙ behind_named of begun (place_of wires (before.taken + 1))
     ∙ wires_give flags begun (pair_row of) wires behind (before.taken + 1) a b out are three

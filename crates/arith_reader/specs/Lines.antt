@@ -1,6 +1,7 @@
 -- Lines of gates that are read at once.
-use Rattle.std.specs.Prelude.{◌≡◌, ℕ, ◌<◌, Bool, true, false, List, ◌∷◌, codes, length}
+use Rattle.std.specs.Prelude.{◌≡◌, ℕ, ◌+◌, ◌^◌, ◌<◌, Bool, true, false, List, ◌∷◌, codes, length}
 use Rattle.zk_model.specs.Bristol.{name}
+use Rattle.zk_model.specs.ArithFaults.{Place}
 use Rattle.zk_model.specs.declared.ArithRow.{ArithRow}
 use Rattle.zk_model.specs.declared.ArithRow.TheVariants.{Add, Mul}
 use Rattle.text_tokens.specs.Words.{left_of}
@@ -22,6 +23,11 @@ pair_row pair.Mul a b out = Mul a b out
 pub record StartsName (text of behind : List ℕ) : Type 0 where
   pub shorter : length behind < length text
   pub left : left_of text ≡ name of ∷ left_of behind
+
+-- the same at a place
+pub record IsNameAt (at : Place) (of behind : List ℕ) : Type 0 where
+  pub fits : at.taken + 1 + length behind < 2 ^ 64
+  pub left : at.left ≡ name of ∷ left_of behind
 
 -- by its flag, a wire is set
 abbrev pub IsSet : List Bool → ℕ → Type 0

@@ -2,7 +2,7 @@
 // written otherwise, as a number of nine digits, or has a fault, is read token by token.
 ghost use Rattle.std.specs.Prelude.{◌≡◌, true, IfSome, IfNone, length};
 ghost use Rattle.packed_gates.specs.PackedRows.{HasElement};
-ghost use Rattle.arith_reader.specs.Lines.{IsFree, IsSet, StartsName, pair_row, pair_text};
+ghost use Rattle.arith_reader.specs.Lines.{IsFree, IsNameAt, IsSet, StartsName, pair_row, pair_text};
 ghost use Rattle.arith_reader.specs.Rows.{GivesRow, IsWithin};
 
 use text_tokens::{Tokens, short_number, skip_blanks};
@@ -52,15 +52,19 @@ fn name_here(text: &[u8]) -> Option<(PairName, &[u8])>
     Some((name, behind))
 }
 
-/// The same where blanks may come before the name, as a line feed behind a carriage return does.
+/// The name that comes next, if a space is after it, and the text after these. Blanks before it, as a line feed behind a carriage
+/// return, are passed.
 #[inline(always)]
-fn next_name(text: &[u8]) -> Option<(PairName, &[u8])>
-    ensures { IfSome result (λ r. StartsName text.now (pair_text r.0) r.1.now) }
+fn next_name<'a>(tokens: &mut Tokens<'a>) -> Option<(PairName, &'a [u8])>
+    ensures same { tokens.new ≡ tokens.old }
+    ensures name { IfSome result (λ r. IsNameAt tokens.old (pair_text r.0) r.1.now) }
 {
+    let text = tokens.rest();
     if let Some((name, behind)) = name_here(text) {
         return Some((name, behind));
     }
     let start = skip_blanks(text);
+    tokens.move_on(0, start);
     let (name, behind) = name_here(start)?;
     Some((name, behind))
 }
@@ -91,7 +95,7 @@ pub fn take_line(tokens: &mut Tokens, set: &[bool]) -> Option<ArithRow>
     ensures within { IfSome result (IsWithin (length set.now)) }
     ensures element { IfSome result HasElement }
 {
-    let (name, behind) = next_name(tokens.rest())?;
+    let (name, behind) = next_name(tokens)?;
     let (a, behind) = short_number::<false>(behind)?;
     let (b, behind) = short_number::<false>(behind)?;
     let (out, behind) = short_number::<true>(behind)?;
