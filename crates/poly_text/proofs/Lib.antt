@@ -1,0 +1,5 @@
+pub mod ExampleTexts
+pub mod Exits
+pub mod Items
+pub mod Exact
+pub mod Texts
