@@ -11,6 +11,8 @@
 mod finding;
 mod key_polynomial;
 mod sums;
+#[cfg(test)]
+mod tests;
 mod verify;
 
 pub use finding::{PolyFinding, poly_finding};
