@@ -23,7 +23,7 @@ mod store;
 pub use ceilings::CeilingJournal;
 pub use desk::Desk;
 pub use fault::{StoreFault, TryFault};
-pub use grantor::Grantor;
+pub use grantor::{GrantFault, Grantor};
 pub use name::LeaseName;
 pub use parts::LeaseParts;
 pub use store::LeaseStore;

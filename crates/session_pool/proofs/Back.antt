@@ -9,7 +9,7 @@ use Rattle.lease_words.specs.Calls.{entries_of, known_of, met_of, all_entries}
 use Rattle.lease_words.specs.declared.pass.Pass.{Pass}
 use Rattle.lease_words.specs.declared.view.Entry.{Entry}
 use Rattle.lease_store.specs.Leases.{IsPassAt}
-use Rattle.lease_store.specs.declared.LeaseFault.{LeaseFault}
+use Rattle.lease_store.specs.declared.grantor.GrantFault.{GrantFault}
 use Rattle.session_pool.specs.Notes.{meets_fault}
 use Rattle.session_pool.specs.Works.{AllowsMark, IsWorker, AreBack, most_known}
 use Rattle.session_pool.proofs.Works.{joined}
@@ -25,7 +25,7 @@ known_push (q ∷ ps) p = let i = known_push ps p in omega (arith, i)
 allowed_parts : (ps : List Pass) (p : Pass) (mark : ℕ) → All (λ q. AllowsMark q mark) (ps ++ p ∷ []) → All (λ q. AllowsMark q mark) ps × AllowsMark p mark
 allowed_parts ps p mark h = All-pop (λ q. AllowsMark q mark) (ps ++ p ∷ []) ps (Some p) refl h
 
-module _ {M : Type 0} (granted : M → Option Span) (refused : M → Option LeaseFault) (is_note : M → Type 0) (fresh : Type 0) (size : M → ℕ) (table : TableId) (total : ℕ) where
+module _ {M : Type 0} (granted : M → Option Span) (refused : M → Option GrantFault) (is_note : M → Type 0) (fresh : Type 0) (size : M → ℕ) (table : TableId) (total : ℕ) where
   pub none_back : (amount : ℕ) → amount ≡ 0 → AreBack granted refused is_note fresh size table total [] amount []
   none_back amount is = record {
     own = λ k d l. absurd (omega (arith, l));

@@ -13,8 +13,9 @@ use Rattle.lease_words.specs.declared.pass.Pass.{Pass}
 use Rattle.lease_words.specs.declared.view.Entry.{Entry}
 use Rattle.lease_words.proofs.Whole.{two_le, at_most_one, within}
 use Rattle.lease_store.specs.Leases.{IsClosed}
-use Rattle.lease_store.specs.declared.LeaseFault.{LeaseFault}
+use Rattle.lease_store.specs.declared.grantor.GrantFault.{GrantFault}
 use Rattle.lease_store.specs.declared.LeaseFault.TheVariants as lease
+use Rattle.lease_store.specs.declared.grantor.GrantFault.TheVariants as grant
 use Rattle.session_pool.specs.Notes.{AreGrantsApart, IsBetween, IsRefusedBy, IsRefusedAmong, IsLeft, IsUnused, faults_met}
 use Rattle.session_pool.specs.Works.{counts_unit, IsUpTo, IsReachedBy, IsPoolReached, AllowsMark, IsWork, most_known}
 use Rattle.session_pool.proofs.Works.{if_weaker}
@@ -91,14 +92,17 @@ greatest_base : (base : ℕ) (es : List Entry) → greatest_end 0 es ≤ greates
 greatest_base base [] = omega arith
 greatest_base base (e ∷ es) = let i = greatest_base base es in omega (arith, i)
 
-refused_by : (units own total reach drawn taken base : ℕ) (fault : LeaseFault) → reach ≤ base + drawn → drawn ≤ taken
+refused_by : (units own total reach drawn taken base : ℕ) (fault : GrantFault) → reach ≤ base + drawn → drawn ≤ taken
     → IsReachedBy units own total reach drawn taken fault → IsRefusedBy units total (base + (taken - max units own)) (Some fault)
-refused_by units own total reach drawn taken base (lease.Exhausted at count all) low few r =
+refused_by units own total reach drawn taken base (grant.Lease (lease.Exhausted at count all)) low few r =
     let ends = r.0 in let last = r.4 in (omega (arith, low, few, ends, last), r.1, r.2, r.3)
-refused_by units own total reach drawn taken base lease.Device low few r = tt
-refused_by units own total reach drawn taken base (lease.Broken first) low few r = tt
+refused_by units own total reach drawn taken base (grant.Lease lease.Device) low few r = tt
+refused_by units own total reach drawn taken base (grant.Lease (lease.Broken first)) low few r = tt
+refused_by units own total reach drawn taken base grant.NoMemory low few r = r
+refused_by units own total reach drawn taken base (grant.NoBlock wants) low few r = r
+refused_by units own total reach drawn taken base grant.Broker low few r = r
 
-refused_among : {M : Type 0} (size : M → ℕ) (base total : ℕ) (entries : List Entry) (notes : List M) (m : M) (fault : LeaseFault)
+refused_among : {M : Type 0} (size : M → ℕ) (base total : ℕ) (entries : List Entry) (notes : List M) (m : M) (fault : GrantFault)
     → greatest_end 0 entries ≤ base + units_drawn entries → units_drawn entries ≤ sum_by size notes
     → IsPoolReached size total entries notes (size m) fault → IsRefusedAmong size base total notes m fault
 refused_among size base total entries notes m fault low few r = record {
@@ -124,7 +128,7 @@ module _ (start disk : DiskState) (id : List ℕ) (total : ℕ) (ps : List Pass)
   pub same_closed : (base first : ℕ) → base ≡ first → IsClosed start disk id base total ps → IsClosed start disk id first total ps
   same_closed base first is closed = subst (λ (x : ℕ). IsClosed start disk id x total ps) is closed
 
-  pub none_left : {M : Type 0} (fresh : Type 0) → (fresh → All IsUnused ps) → (size : M → ℕ) (granted : M → Option Span) (refused : M → Option LeaseFault) (first notes : List M) (base workers : ℕ) → first ≡ [] → notes ≡ first
+  pub none_left : {M : Type 0} (fresh : Type 0) → (fresh → All IsUnused ps) → (size : M → ℕ) (granted : M → Option Span) (refused : M → Option GrantFault) (first notes : List M) (base workers : ℕ) → first ≡ [] → notes ≡ first
       → length ps ≡ workers → IsClosed start disk id base total ps → IsLeft fresh start disk id base total workers size granted refused notes
   none_left {M} fresh unused size granted refused first notes base workers none same count closed =
       let empty : length notes ≡ 0 = ap (length {A = M}) same ∙ ap (length {A = M}) none in record {
@@ -142,13 +146,13 @@ module _ (start disk : DiskState) (id : List ℕ) (total : ℕ) (ps : List Pass)
 
 -- ---- all of it
 
-pub record IsRun {M : Type 0} (granted : M → Option Span) (refused : M → Option LeaseFault) (fresh : Type 0) (size : M → ℕ) (notes : List M)
+pub record IsRun {M : Type 0} (granted : M → Option Span) (refused : M → Option GrantFault) (fresh : Type 0) (size : M → ℕ) (notes : List M)
     (start disk : DiskState) (id : List ℕ) (base total workers : ℕ) : Type 0 where
   pub apart : AllPairs (λ m n. AreGrantsApart (granted m) (granted n)) notes
   pub left : IsLeft fresh start disk id base total workers size granted refused notes
   pub refusals : fresh → All (λ m. IfSome (refused m) (IsRefusedAmong size base total notes m)) notes
 
-module _ {M : Type 0} (granted : M → Option Span) (refused : M → Option LeaseFault) (is_note : M → Type 0) (fresh : Type 0) (size : M → ℕ) (notes : List M) (ps : List Pass)
+module _ {M : Type 0} (granted : M → Option Span) (refused : M → Option GrantFault) (is_note : M → Type 0) (fresh : Type 0) (size : M → ℕ) (notes : List M) (ps : List Pass)
     (start disk : DiskState) (id : List ℕ) (base total workers : ℕ) (count : length ps ≡ workers)
     (w : IsWork granted refused is_note fresh size total (all_entries ps) (most_known ps) (λ mark. All (λ p. AllowsMark p mark) ps) notes) (few : faults_met refused notes ≤ all_met_by ps) (closed : IsClosed start disk id base total ps) where
   all_apart : AllPairs (λ m n. AreGrantsApart (granted m) (granted n)) notes

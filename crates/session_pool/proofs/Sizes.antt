@@ -4,8 +4,9 @@ use Rattle.std.specs.List.{sum_by}
 use Rattle.std.proofs.lemmas.Bool.{cases_lt}
 use Rattle.std.proofs.lemmas.List.Sums.{sum_by-le}
 use Rattle.zk_model.specs.declared.Span.{Span}
-use Rattle.lease_store.specs.declared.LeaseFault.{LeaseFault}
+use Rattle.lease_store.specs.declared.grantor.GrantFault.{GrantFault}
 use Rattle.lease_store.specs.declared.LeaseFault.TheVariants as lease
+use Rattle.lease_store.specs.declared.grantor.GrantFault.TheVariants as grant
 use Rattle.session_pool.specs.Notes.{IsBetween, IsRefusedBy, IsRefusedAmong}
 
 pub one_between : {M : Type 0} (size : M → ℕ) (granted : M → Option Span) (units base ceiling : ℕ) (notes : List M)
@@ -19,10 +20,13 @@ one_between size granted units base ceiling notes same h k d l =
       at_size n (Some s) is b = subst (λ (m : ℕ). IsBetween m base ceiling (Some s)) is b
 
 -- a greater last place
-last_more : (units total low high : ℕ) → low ≤ high → (fault : LeaseFault) → IsRefusedBy units total low (Some fault) → IsRefusedBy units total high (Some fault)
-last_more units total low high more (lease.Exhausted at count all) r = let a = r.0 in (omega (arith, a, more), r.1, r.2, r.3)
-last_more units total low high more lease.Device r = tt
-last_more units total low high more (lease.Broken first) r = tt
+last_more : (units total low high : ℕ) → low ≤ high → (fault : GrantFault) → IsRefusedBy units total low (Some fault) → IsRefusedBy units total high (Some fault)
+last_more units total low high more (grant.Lease (lease.Exhausted at count all)) r = let a = r.0 in (omega (arith, a, more), r.1, r.2, r.3)
+last_more units total low high more (grant.Lease lease.Device) r = tt
+last_more units total low high more (grant.Lease (lease.Broken first)) r = tt
+last_more units total low high more grant.NoMemory r = r
+last_more units total low high more (grant.NoBlock wants) r = r
+last_more units total low high more grant.Broker r = r
 
 at_most : (units n : ℕ) → (1 ≤ n → n ≡ units) → n ≤ units
 at_most units n h = ⊎_elim (λ (z : 0 < n). omega (arith, h z)) (λ (z : n ≤ 0). omega (arith, z)) (cases_lt 0 n)
@@ -31,14 +35,14 @@ all_but_one : (units taken notes own : ℕ) → taken ≤ notes * units → take
 all_but_one units taken zero own h = omega (arith, h)
 all_but_one units taken (suc n) own h = let e : suc n - 1 ≡ n = omega arith in rw e (omega (arith, h))
 
-module _ {M : Type 0} (size : M → ℕ) (refused : M → Option LeaseFault) (units base total : ℕ) (notes : List M) (same : All (λ note. 1 ≤ size note → size note ≡ units) notes) where
+module _ {M : Type 0} (size : M → ℕ) (refused : M → Option GrantFault) (units base total : ℕ) (notes : List M) (same : All (λ note. 1 ≤ size note → size note ≡ units) notes) where
   taken_at_most : sum_by size notes ≤ length notes * units
   taken_at_most = sum_by-le size units notes (λ k d l. at_most units (size (get_or notes k d)) (same k d l))
 
   contained : (drawer : M) → Contains notes drawer → 1 ≤ size drawer → size drawer ≡ units
   contained drawer c some = subst (λ (y : M). 1 ≤ size y → size y ≡ units) c.2 (same c.0 drawer c.1) some
 
-  one_refused : (note : M) (o : Option LeaseFault) → IfSome o (IsRefusedAmong size base total notes note)
+  one_refused : (note : M) (o : Option GrantFault) → IfSome o (IsRefusedAmong size base total notes note)
       → IsRefusedBy units total (base + units * (length notes - 1)) o
   one_refused note None r = tt
   one_refused note (Some fault) r =

@@ -10,14 +10,15 @@ use Rattle.lease_words.specs.declared.fault.Exhausted.{Exhausted as Refusal}
 use Rattle.lease_words.specs.declared.pass.Pass.{Pass}
 use Rattle.lease_words.specs.declared.view.Entry.{Entry}
 use Rattle.lease_store.specs.Leases.{IsPassAt}
-use Rattle.lease_store.specs.declared.LeaseFault.{LeaseFault}
 use Rattle.lease_store.specs.declared.LeaseFault.TheVariants.{Exhausted, Device, Broken}
+use Rattle.lease_store.specs.declared.grantor.GrantFault.{GrantFault}
+use Rattle.lease_store.specs.declared.grantor.GrantFault.TheVariants.{Lease, NoMemory, NoBlock, Broker}
 use Rattle.session_pool.specs.Notes.{IsNoteOf, IsMarked, TellsMark, faults_met}
 
 -- What the workers of a run agree on is this of the session: what its notes say, and that its units are those of the store
-pub record IsShiftOf {M : Type 0} (is_note : M → Type 0) (granted : M → Option Span) (refused : M → Option LeaseFault)
-    (size : M → ℕ) (total : ℕ) (IsNote : Option (Result Span LeaseFault) → M → Type 0) (session_granted : M → Option Span)
-    (session_refused : M → Option LeaseFault) (session_size : M → ℕ) (session_total : ℕ) : Type 0 where
+pub record IsShiftOf {M : Type 0} (is_note : M → Type 0) (granted : M → Option Span) (refused : M → Option GrantFault)
+    (size : M → ℕ) (total : ℕ) (IsNote : Option (Result Span GrantFault) → M → Type 0) (session_granted : M → Option Span)
+    (session_refused : M → Option GrantFault) (session_size : M → ℕ) (session_total : ℕ) : Type 0 where
   pub total_is : total ≡ session_total
   pub notes : (note : M) → IsNoteOf IsNote note → is_note note
   pub granted_is : (note : M) → granted note ≡ session_granted note
@@ -40,15 +41,18 @@ IsUpTo units total known granted =
 
 -- So many units that are refused for want of them end above the total, and at or below the greatest end of what was drawn. As many as the
 -- refused session takes itself end there too, or above by no more than what notes take and nobody drew.
-abbrev pub IsReachedBy : ℕ → ℕ → ℕ → ℕ → ℕ → ℕ → LeaseFault → Type 0
-IsReachedBy units own total reach drawn taken (Exhausted at count all) =
+abbrev pub IsReachedBy : ℕ → ℕ → ℕ → ℕ → ℕ → ℕ → GrantFault → Type 0
+IsReachedBy units own total reach drawn taken (Lease (Exhausted at count all)) =
     (at + units ≤ reach) × (count ≡ units) × (all ≡ total) × (total < at + units) × (at + own + drawn ≤ reach + taken)
-IsReachedBy units own total reach drawn taken Device = Unit {0}
-IsReachedBy units own total reach drawn taken (Broken first) = Unit {0}
+IsReachedBy units own total reach drawn taken (Lease Device) = Unit {0}
+IsReachedBy units own total reach drawn taken (Lease (Broken first)) = Unit {0}
+IsReachedBy units own total reach drawn taken NoMemory = ⊥
+IsReachedBy units own total reach drawn taken (NoBlock wants) = ⊥
+IsReachedBy units own total reach drawn taken Broker = ⊥
 
 -- the same of entries and of notes, one of which takes so many units
 pub record IsPoolReached {M : Type 0} (size : M → ℕ) (total : ℕ) (entries : List Entry) (notes : List M) (own : ℕ)
-    (fault : LeaseFault) : Type 0 where
+    (fault : GrantFault) : Type 0 where
   pub drawer : M
   pub among : Contains notes drawer
   pub least : 1 ≤ size drawer
@@ -62,7 +66,7 @@ AllowsMark p mark = (mark_of p ≡ 0) ⊎ (mark_of p ≡ mark)
 -- What notes are to entries, to a known ceiling and to the marks that a store may have: each is a note of the session; no unit is
 -- granted more often than drawn; a journal's failure is that of the mark; and where the passes had not drawn before, no more units are
 -- drawn than all notes take, and what is refused was drawn.
-pub record IsWork {M : Type 0} (granted : M → Option Span) (refused : M → Option LeaseFault) (is_note : M → Type 0)
+pub record IsWork {M : Type 0} (granted : M → Option Span) (refused : M → Option GrantFault) (is_note : M → Type 0)
     (fresh : Type 0) (size : M → ℕ) (total : ℕ) (entries : List Entry) (known : ℕ) (Allows : ℕ → Type 0)
     (notes : List M) : Type 0 where
   pub rightly : All is_note notes
@@ -75,10 +79,10 @@ pub record IsWork {M : Type 0} (granted : M → Option Span) (refused : M → Op
 -- a refusal that a pass keeps was drawn
 abbrev pub IsRefusalKept : {M : Type 0} → Type 0 → (M → ℕ) → ℕ → List M → Pass → Type 0
 IsRefusalKept fresh size total notes p = fresh → (e : Refusal) → p.kept ≡ Some e
-    → IsPoolReached size total (entries_of p) notes 0 (Exhausted e.at e.count e.total)
+    → IsPoolReached size total (entries_of p) notes 0 (Lease (Exhausted e.at e.count e.total))
 
 -- what a worker keeps
-pub record IsWorker {M : Type 0} (granted : M → Option Span) (refused : M → Option LeaseFault) (is_note : M → Type 0)
+pub record IsWorker {M : Type 0} (granted : M → Option Span) (refused : M → Option GrantFault) (is_note : M → Type 0)
     (fresh : Type 0) (size : M → ℕ) (table : TableId) (total : ℕ) (pass : Pass) (parts amount : ℕ) (notes : List M) : Type 0 where
   pub own : IsPassAt table total pass
   pub part : parts ≡ 1
@@ -93,7 +97,7 @@ most_known [] = 0
 most_known (p ∷ ps) = max (known_of p) (most_known ps)
 
 -- what came back of some workers
-pub record AreBack {M : Type 0} (granted : M → Option Span) (refused : M → Option LeaseFault) (is_note : M → Type 0)
+pub record AreBack {M : Type 0} (granted : M → Option Span) (refused : M → Option GrantFault) (is_note : M → Type 0)
     (fresh : Type 0) (size : M → ℕ) (table : TableId) (total : ℕ) (passes : List Pass) (amount : ℕ) (notes : List M) : Type 0 where
   pub own : All (IsPassAt table total) passes
   pub counted : amount ≡ length notes

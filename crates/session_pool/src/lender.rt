@@ -5,7 +5,7 @@ ghost use Rattle.lease_store.specs.Leases.{PassGoesOn, IsPassAt};
 ghost use Rattle.session_pool.specs.Notes.{IsSessionServed};
 
 use crate::session::Session;
-use lease_store::{Grantor, LeaseFault, LeaseName, LeaseStore};
+use lease_store::{GrantFault, Grantor, LeaseName, LeaseStore};
 use lease_words::Pass;
 use std::alloc::Global;
 use std::sync::Wait;
@@ -19,12 +19,13 @@ pub(crate) struct Lender<'a, 'p, B: Disk, N: LeaseName, R: Wait> {
     pub(crate) store: &'a LeaseStore<B, N>,
     pub(crate) pass: &'p mut Pass,
     pub(crate) asked: Option<u32>,
-    pub(crate) answer: Option<Result<Span, LeaseFault>>,
+    pub(crate) answer: Option<Result<Span, GrantFault>>,
 }
 
 impl<'a, 'p, B: Disk, N: LeaseName, R: Wait> Grantor for Lender<'a, 'p, B, N, R> {
     ghost use Rattle.std.specs.Prelude.{◌≡◌, ◌≤◌};
-    ghost use Rattle.lease_store.specs.Leases.{IsPassAt, Leased, PassGoesOn};
+    ghost use Rattle.lease_store.specs.Leases.{IsPassAt, PassGoesOn};
+    ghost use Rattle.session_pool.specs.Notes.{LeasedAs};
     ghost use Rattle.zk_model.specs.declared.limits.TheConstants.{MAX_UNITS};
 
     ghost answer = { λ l. l.answer };
@@ -37,10 +38,11 @@ impl<'a, 'p, B: Disk, N: LeaseName, R: Wait> Grantor for Lender<'a, 'p, B, N, R>
 
     ghost moves = { λ l count answer m. (m.pass.ghost_name ≡ l.pass.ghost_name)
         × IsPassAt N.table N.total m.pass.now × PassGoesOn l.pass.now m.pass.now
-        × Leased l.pass.now count answer m.pass.now };
+        × LeasedAs l.pass.now count answer m.pass.now };
 
-    fn grant(&mut self, count: u32) -> Result<Span, LeaseFault> {
-        let answer = self.store.lease(self.rt, &mut *self.pass, count);
+    fn grant(&mut self, count: u32) -> Result<Span, GrantFault> {
+        let leased = self.store.lease(self.rt, &mut *self.pass, count);
+        let answer = leased.map_err(GrantFault::from);
         self.asked = Some(count);
         self.answer = Some(answer);
         answer

@@ -13,7 +13,7 @@ use zk_port::Link;
 pub trait Session<L: Link> {
     ghost use Rattle.std.specs.Prelude.{ℕ, List, Option, Result};
     ghost use Rattle.zk_model.specs.declared.Span.{Span};
-    ghost use Rattle.lease_store.specs.declared.LeaseFault.{LeaseFault};
+    ghost use Rattle.lease_store.specs.declared.grantor.GrantFault.{GrantFault};
     ghost use Rattle.session_pool.specs.Notes.{granted_by};
 
     /// What came of it.
@@ -28,13 +28,13 @@ pub trait Session<L: Link> {
     ghost total: { Self → ℕ };
 
     /// What a note says of a session that was answered so when it asked for units, if it asked.
-    ghost is_note: { Self → Option (Result Span LeaseFault) → Self.Note → Type 0 };
+    ghost is_note: { Self → Option (Result Span GrantFault) → Self.Note → Type 0 };
 
     /// The units that were granted, if any were.
     ghost granted: { Self.Note → Option Span };
 
     /// Why none were, where the session ended by that.
-    ghost refused: { Self.Note → Option LeaseFault };
+    ghost refused: { Self.Note → Option GrantFault };
 
     /// Leads it over a fresh link, which is ended then. It may have threads of its own.
     fn lead<R: Threads + Sync, T: Grantor>(

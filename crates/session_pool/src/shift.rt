@@ -18,13 +18,13 @@ pub(crate) trait Run: Ledger {
 pub(crate) trait Shift<M>: Run {
     ghost use Rattle.std.specs.Prelude.{ℕ, Option};
     ghost use Rattle.zk_model.specs.declared.Span.{Span};
-    ghost use Rattle.lease_store.specs.declared.LeaseFault.{LeaseFault};
+    ghost use Rattle.lease_store.specs.declared.grantor.GrantFault.{GrantFault};
 
     ghost is_note: { M → Type 0 };
 
     ghost granted: { M → Option Span };
 
-    ghost refused: { M → Option LeaseFault };
+    ghost refused: { M → Option GrantFault };
 
     ghost size: { M → ℕ };
 

@@ -5,11 +5,11 @@ use crate::cases::{Case, cases_of, link_of};
 use crate::piece_link::PieceLink;
 use crate::say::{Asked, Called, Ending, Logged, Units, prover_ending, verifier_ending};
 use crate::scenario::{NOTHING_REFUSED, Scenario};
-use crate::units::{AskedUnits, NextUnits, claim_fault, lease_fault};
+use crate::units::{AskedUnits, NextUnits, claim_fault, grant_fault};
 use anyhow::Result;
 use claim_store::ClaimFault;
 use frame_link::Log;
-use lease_store::LeaseFault;
+use lease_store::GrantFault;
 use session_core::{ProverJob, VerifierJobs};
 use session_prover::{ProverNote, prove_session};
 use session_verifier::{SessionNote, verify_session};
@@ -60,7 +60,7 @@ fn verify<R: Threads + Sync>(
     alloc: Global,
     jobs: &VerifierJobs<'_>,
     start: u64,
-    fault: Option<LeaseFault>,
+    fault: Option<GrantFault>,
     link: PieceLink,
 ) -> (Option<u32>, Session)
     requires { (⟦<PieceLink as Link>⟧.state link).is_open ≡ true }
@@ -223,7 +223,7 @@ fn session_line<R: Threads + Sync>(
     let link = link_of(alloc, script, refused, piece)?;
     match job {
         EndJob::Verifier(jobs) => {
-            let fault = lease_fault(scenario.refusal)?;
+            let fault = grant_fault(scenario.refusal)?;
             let (statement, session) = verify(rt, alloc, jobs, scenario.start, fault, link);
             let taken = taken_word(alloc, scenario.before.is_some(), statement)?;
             line_of(alloc, &name, &taken, &session)

@@ -196,6 +196,8 @@ pub fn verifier_ending(outcome: VerifierOutcome) -> Ending {
         ),
         VerifierOutcome::Device => bare("device"),
         VerifierOutcome::Broken { first } => single("broken", "first", first),
+        VerifierOutcome::NoBlock { wants } => single("no-block", "wants", u64::from(wants)),
+        VerifierOutcome::Broker => bare("broker"),
         VerifierOutcome::Link => bare("link"),
         VerifierOutcome::NoMemory => bare("no-memory"),
     }

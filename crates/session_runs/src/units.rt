@@ -2,7 +2,7 @@
 use crate::scenario::Refusal;
 use anyhow::{Error, Result};
 use claim_store::ClaimFault;
-use lease_store::{Grantor, LeaseFault};
+use lease_store::{GrantFault, Grantor, LeaseFault};
 use session_prover::Claimant;
 use zk_model::Span;
 
@@ -11,9 +11,9 @@ use zk_model::Span;
 pub struct NextUnits {
     pub start: u64,
     pub total: u64,
-    pub fault: Option<LeaseFault>,
+    pub fault: Option<GrantFault>,
     pub asked: Option<u32>,
-    pub answer: Option<Result<Span, LeaseFault>>,
+    pub answer: Option<Result<Span, GrantFault>>,
 }
 
 impl Grantor for NextUnits {
@@ -27,13 +27,13 @@ impl Grantor for NextUnits {
 
     ghost moves = { λ g count answer h. Unit {0} };
 
-    fn grant(&mut self, count: u32) -> Result<Span, LeaseFault> {
+    fn grant(&mut self, count: u32) -> Result<Span, GrantFault> {
         let at = self.start;
         let total = self.total;
         let answer = match (self.fault, at.checked_add(u64::from(count))) {
             (Some(fault), _) => Err(fault),
             (None, Some(end)) if end <= total => Ok(Span { start: at, end }),
-            (None, _) => Err(LeaseFault::Exhausted { at, count, total }),
+            (None, _) => Err(GrantFault::Lease(LeaseFault::Exhausted { at, count, total })),
         };
         self.asked = Some(count);
         self.answer = Some(answer);
@@ -71,8 +71,8 @@ impl Claimant for AskedUnits {
     }
 }
 
-/// The fault by which leases are refused, if they are.
-pub fn lease_fault(refusal: Option<Refusal<'_>>) -> Result<Option<LeaseFault>> {
+/// The fault by which units are refused, if they are.
+pub fn grant_fault(refusal: Option<Refusal<'_>>) -> Result<Option<GrantFault>> {
     let Some(refusal) = refusal else {
         return Ok(None);
     };
@@ -87,7 +87,7 @@ pub fn lease_fault(refusal: Option<Refusal<'_>>) -> Result<Option<LeaseFault>> {
         "broken" => LeaseFault::Broken { first },
         _ => return Err(Error::msg("no refusal of a lease")),
     };
-    Ok(Some(fault))
+    Ok(Some(GrantFault::Lease(fault)))
 }
 
 /// The fault by which claims are refused, if they are.

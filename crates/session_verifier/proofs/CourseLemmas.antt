@@ -19,7 +19,7 @@ use Rattle.zk_model.specs.declared.Side.{Side}
 use Rattle.zk_model.specs.declared.Side.TheVariants.{Prover, Verifier}
 use Rattle.zk_model.specs.declared.Span.{Span}
 use Rattle.zk_laws.specs.Extraction.{Extraction}
-use Rattle.lease_store.specs.declared.LeaseFault.{LeaseFault}
+use Rattle.lease_store.specs.declared.grantor.GrantFault.{GrantFault}
 use Rattle.session_core.specs.Jobs.{VerifierJob, units_of_job, granted_from, VerifierJobs, noted_job}
 use Rattle.session_core.specs.Rounds.{round_turns}
 use Rattle.session_core.specs.Judgements.{IsJudgement, session_transcript, verdict_in}
@@ -28,12 +28,12 @@ use Rattle.session_core.specs.declared.judgement.Judgement.{Judgement}
 use Rattle.session_core.proofs.Enough.{parts_within}
 use Rattle.session_core.proofs.Served.{AreRanged, served_is}
 use Rattle.frame_link.specs.Lines.{LinkSnapshot, IsWithinFrame, counted_times}
-use Rattle.session_verifier.specs.Outcomes.{HasRefusal, lease_outcome, lease_code, judgement_outcome, refusal_of, lease_fault, hello_code, verifier_line_outcome, verifier_fault_outcome}
+use Rattle.session_verifier.specs.Outcomes.{HasRefusal, grant_outcome, grant_code, judgement_outcome, refusal_of, grant_fault, hello_code, verifier_line_outcome, verifier_fault_outcome}
 use Rattle.session_verifier.specs.Stages.{Greeting, IsGreeted, IsBehind, IsStopped, IsVerifierLogAt, IsRefusedGrant, IsGrantUnsent, IsJudgedLog, first_turn, second_turn, ComesThere, IsTurnedAway, RefusesAfter, IsTurnsLog, last_turn, Ending, HasEnding, answer_at, outcome_at, lacks_hello, turns_away, lacks_units, lacks_grant, loses_grant, stops_behind, judges, AreUnits, VerifierStopsBehind}
 use Rattle.session_pool.specs.Notes.{granted_by}
 use Rattle.session_verifier.specs.Notes.{IsJudgedSession, JudgesRightly, IsShown, HasJudged, RefusesNoLease, EndsBecause, LeasesBehindHello, CountsFaults, HasTaken, VerifierCompletes, CompletesForEach, IsUngranted, SendsRightly, AcceptsExactly, KeepsKeys, AnswersLease}
 use Rattle.session_verifier.specs.declared.note.VerifierOutcome.{VerifierOutcome}
-use Rattle.session_verifier.specs.declared.note.VerifierOutcome.TheVariants.{Accepted, RejectedSum, RejectedOpening, PeerEnded, BadFrame, Exhausted, Device, Broken, Link, NoMemory}
+use Rattle.session_verifier.specs.declared.note.VerifierOutcome.TheVariants.{Accepted, RejectedSum, RejectedOpening, PeerEnded, BadFrame, Exhausted, Device, Broken, NoBlock, Broker, Link, NoMemory}
 use Rattle.session_driver.proofs.Going.{came_more, answers_heard}
 use Rattle.session_driver.proofs.Rows.{row_three, nested}
 use Rattle.std.proofs.lemmas.List.{nil_from_length}
@@ -44,6 +44,7 @@ use Rattle.session_laws.proofs.Cut.{greeted, greeted_is}
 use Rattle.session_verifier.proofs.StageLemmas.{some_rounds, within_of, hello_in, either_kind}
 use Rattle.frame_link.proofs.FramesLemmas.{some_replies}
 use Rattle.lease_store.specs.declared.LeaseFault.TheVariants as lease
+use Rattle.lease_store.specs.declared.grantor.GrantFault.TheVariants as grant
 use Rattle.session_core.specs.declared.judgement.Judgement.TheVariants as judged
 use Rattle.session_driver.specs.Leaving.{CountsCalls}
 use Rattle.frame_link.specs.declared.fault.LineFault.{LineFault}
@@ -64,7 +65,7 @@ use Rattle.session_verifier.proofs.Cuts.{IsKnown, grant_is, greeting_is_hello, z
 
 -- a lease that was refused is the outcome
 pub answers_lease : (ending : Ending) → AnswersLease (answer_at ending) (outcome_at ending)
-answers_lease (lacks_units refused) fault same = ap lease_outcome (cc)
+answers_lease (lacks_units refused) fault same = ap grant_outcome (cc)
 answers_lease other fault same = cc
 
 -- ---- which outcomes are judgements
@@ -86,10 +87,13 @@ one_judgement some other same = same_Some some other (sym (judged_some some) ∙
 clash : {P : Type 0} (outcome : VerifierOutcome) (judgement : Judgement) → outcome ≡ judgement_outcome judgement → judged_in outcome ≡ None → P
 clash outcome judgement is none = absurd (none_is_some (sym none ∙ ap judged_in is ∙ judged_some judgement))
 
-lease_none : (fault : LeaseFault) → judged_in (lease_outcome fault) ≡ None
-lease_none (lease.Exhausted at count total) = refl
-lease_none lease.Device = refl
-lease_none (lease.Broken at) = refl
+lease_none : (fault : GrantFault) → judged_in (grant_outcome fault) ≡ None
+lease_none (grant.Lease (lease.Exhausted at count total)) = refl
+lease_none (grant.Lease lease.Device) = refl
+lease_none (grant.Lease (lease.Broken at)) = refl
+lease_none grant.NoMemory = refl
+lease_none (grant.NoBlock wants) = refl
+lease_none grant.Broker = refl
 
 line_none : (fault : LineFault) → judged_in (verifier_line_outcome fault) ≡ None
 line_none (line.PeerEnded at) = refl
@@ -145,7 +149,7 @@ pub judges_rightly : (job : VerifierJob) (ending : Ending) (first now : LinkSnap
     → JudgesRightly job (granted_by (answer_at ending)) (outcome_at ending) now.log
 judges_rightly job (lacks_hello fault) first now known has judgement is = clash (verifier_line_outcome fault) judgement is (line_none fault)
 judges_rightly job (turns_away fault) first now known has judgement is = clash (verifier_fault_outcome fault) judgement is (session_none fault)
-judges_rightly job (lacks_units fault) first now known has judgement is = clash (lease_outcome fault) judgement is (lease_none fault)
+judges_rightly job (lacks_units fault) first now known has judgement is = clash (grant_outcome fault) judgement is (lease_none fault)
 judges_rightly job (lacks_grant span) first now known has judgement is = clash NoMemory judgement is refl
 judges_rightly job (loses_grant span fault) first now known has judgement is = clash (verifier_line_outcome fault) judgement is (line_none fault)
 judges_rightly job (stops_behind span fault) first now known has judgement is = clash (verifier_line_outcome fault) judgement is (line_none fault)
@@ -194,10 +198,13 @@ counts_refused outcome said code first now refuses (inr lost) = record {
 }
 
 -- the codes of refusals
-pub lease_refusal : (fault : LeaseFault) → refusal_of (lease_outcome fault) ≡ Some (lease_code fault)
-lease_refusal (lease.Exhausted at count total) = refl
-lease_refusal lease.Device = refl
-lease_refusal (lease.Broken at) = refl
+pub lease_refusal : (fault : GrantFault) → refusal_of (grant_outcome fault) ≡ Some (grant_code fault)
+lease_refusal (grant.Lease (lease.Exhausted at count total)) = refl
+lease_refusal (grant.Lease lease.Device) = refl
+lease_refusal (grant.Lease (lease.Broken at)) = refl
+lease_refusal grant.NoMemory = refl
+lease_refusal (grant.NoBlock wants) = refl
+lease_refusal grant.Broker = refl
 
 pub hello_refusal : (fault : VerifierFault) → refusal_of (verifier_fault_outcome fault) ≡ Some (hello_code fault)
 hello_refusal (session.BadHello differs) = refl
@@ -209,7 +216,7 @@ counts_faults job (lacks_hello fault) first now has = counts_stop job awaits_hel
 counts_faults job (turns_away fault) first now has =
     counts_refused (verifier_fault_outcome fault) has.said (hello_code fault) first now (hello_code fault, hello_refusal fault) has.refused
 counts_faults job (lacks_units fault) first now has =
-    counts_refused (lease_outcome fault) has.greeting.hello (lease_code fault) first now (lease_code fault, lease_refusal fault) has.refused
+    counts_refused (grant_outcome fault) has.greeting.hello (grant_code fault) first now (grant_code fault, lease_refusal fault) has.refused
 counts_faults job (lacks_grant span) first now has = counts_refused NoMemory has.1.greeting.hello 4 first now (4, refl) has.1.refused
 counts_faults job (loses_grant span fault) first now has = counts_line fault first now has.1.lost.calls
 counts_faults job (stops_behind span fault) first now has = counts_stop job has.1.stage fault first now has.1.stopped
@@ -226,12 +233,12 @@ leased_is_not_refused : (span : Span) → RefusesNoLease (Some (Ok span))
 leased_is_not_refused span fault is = cc
 
 -- by the fault at which the session stopped
-stop_cause : (job : VerifierJob) (answer : Option (Result Span LeaseFault)) (stage : VerifierStage) (fault : LineFault) (first now : LinkSnapshot)
+stop_cause : (job : VerifierJob) (answer : Option (Result Span GrantFault)) (stage : VerifierStage) (fault : LineFault) (first now : LinkSnapshot)
     → RefusesNoLease answer → IsStopped job stage fault first now → EndsBecause job answer (verifier_line_outcome fault) first now
 stop_cause job answer stage (line.PeerEnded at) first now leased stopped = (stage, stopped)
 stop_cause job answer stage (line.BadFrame at) first now leased stopped = (stage, stopped)
 stop_cause job answer stage line.Link first now leased stopped = (leased, inl (stage, stopped))
-stop_cause job answer stage line.NoMemory first now leased stopped = (leased, inl (stage, stopped))
+stop_cause job answer stage line.NoMemory first now leased stopped = inl (leased, inl (stage, stopped))
 
 away_cause : (job : VerifierJob) (fault : VerifierFault) (first now : LinkSnapshot) → IsTurnedAway job fault first now
     → EndsBecause job None (verifier_fault_outcome fault) first now
@@ -239,15 +246,18 @@ away_cause job (session.BadHello differs) first now away =
     let same : away.cause.0 ≡ away.said = ap (hello_in away.said) (sym away.cause.2) in
     (away.said, away.is, subst (λ h. DiffersFirst job.task.file.id job.task.statement h differs) same away.cause.3, away.refused)
 away_cause job session.NoMemory first now away =
-    (unasked, inr (inl (record { said = away.said; is = away.is; fits = tt; refused = away.refused })))
+    inl (unasked, inr (inl (record { said = away.said; is = away.is; fits = tt; refused = away.refused })))
 
-lease_cause : (job : VerifierJob) (fault : LeaseFault) (first now : LinkSnapshot) → IsRefusedGrant job (lease_code fault) first now
-    → EndsBecause job (Some (Err fault)) (lease_outcome fault) first now
-lease_cause job (lease.Exhausted at count total) first now refused = (refl, refused)
-lease_cause job lease.Device first now refused = (refl, refused)
-lease_cause job (lease.Broken at) first now refused = (refl, refused)
+lease_cause : (job : VerifierJob) (fault : GrantFault) (first now : LinkSnapshot) → IsRefusedGrant job (grant_code fault) first now
+    → EndsBecause job (Some (Err fault)) (grant_outcome fault) first now
+lease_cause job (grant.Lease (lease.Exhausted at count total)) first now refused = (refl, refused)
+lease_cause job (grant.Lease lease.Device) first now refused = (refl, refused)
+lease_cause job (grant.Lease (lease.Broken at)) first now refused = (refl, refused)
+lease_cause job grant.NoMemory first now refused = inr (refl, refused)
+lease_cause job (grant.NoBlock wants) first now refused = (refl, refused)
+lease_cause job grant.Broker first now refused = (refl, refused)
 
-judged_cause : (job : VerifierJob) (answer : Option (Result Span LeaseFault)) (judgement : Judgement) (first now : LinkSnapshot) → HasJudged job answer judgement first now
+judged_cause : (job : VerifierJob) (answer : Option (Result Span GrantFault)) (judgement : Judgement) (first now : LinkSnapshot) → HasJudged job answer judgement first now
     → EndsBecause job answer (judgement_outcome judgement) first now
 judged_cause job answer judged.Accepted first now is = is
 judged_cause job answer (judged.RejectedSum section left right) first now is = is
@@ -256,12 +266,12 @@ judged_cause job answer (judged.RejectedOpening output left right) first now is 
 unsent_cause : (job : VerifierJob) (span : Span) (fault : LineFault) (first now : LinkSnapshot) → IsGrantUnsent job span.start fault first now
     → EndsBecause job (Some (Ok span)) (verifier_line_outcome fault) first now
 unsent_cause job span line.Link first now unsent = (leased_is_not_refused span, inr (span, refl, unsent))
-unsent_cause job span line.NoMemory first now unsent = (leased_is_not_refused span, inr (inr (span, refl, unsent)))
+unsent_cause job span line.NoMemory first now unsent = inl (leased_is_not_refused span, inr (inr (span, refl, unsent)))
 unsent_cause job span other first now unsent = absurd unsent.lost.fault_is
 
 lacking_cause : (job : VerifierJob) (span : Span) (first now : LinkSnapshot) → IsKnown job → IsRefusedGrant job 4 first now
     → EndsBecause job (Some (Ok span)) NoMemory first now
-lacking_cause job span first now known is = (
+lacking_cause job span first now known is = inl (
   leased_is_not_refused span,
   inr (inl (record {
     said = is.greeting.hello;
@@ -326,7 +336,7 @@ pub leases_behind : (job : VerifierJob) (ending : Ending) (first now : LinkSnaps
     → LeasesBehindHello job (answer_at ending) now.log
 leases_behind job (lacks_hello fault) first now has = tt
 leases_behind job (turns_away fault) first now has = tt
-leases_behind job (lacks_units fault) first now has = begins_refused job (lease_code fault) first now has
+leases_behind job (lacks_units fault) first now has = begins_refused job (grant_code fault) first now has
 leases_behind job (lacks_grant span) first now has = begins_refused job 4 first now has.1
 leases_behind job (loses_grant span fault) first now has =
     (has.1.greeting, ([], has.1.lost.logged ∙ sym (append-nil (bytes_from Prover (hello_frame has.1.greeting.hello)))))
@@ -379,15 +389,17 @@ is_shown job ending first now known extraction has accepted =
 -- ---- what an outcome says of the lease that was asked for
 
 -- a session that ended by the fault of a lease was answered by it
-pub refused_by : (job : VerifierJob) (answer : Option (Result Span LeaseFault)) (outcome : VerifierOutcome) (first now : LinkSnapshot)
-    → EndsBecause job answer outcome first now → IfSome (lease_fault outcome) (λ fault. answer ≡ Some (Err fault))
+pub refused_by : (job : VerifierJob) (answer : Option (Result Span GrantFault)) (outcome : VerifierOutcome) (first now : LinkSnapshot)
+    → EndsBecause job answer outcome first now → IfSome (grant_fault outcome) (λ fault. answer ≡ Some (Err fault))
 refused_by job answer (Exhausted at count total) first now because = because.0
 refused_by job answer Device first now because = because.0
 refused_by job answer (Broken at) first now because = because.0
+refused_by job answer (NoBlock wants) first now because = because.0
+refused_by job answer Broker first now because = because.0
 refused_by job answer other first now because = tt
 
 -- a session that is accepted with an honest prover of whichever statement is so with one of the statement that is noted
-pub completes_noted : (jobs : VerifierJobs) (taken : Option ℕ) (answer : Option (Result Span LeaseFault)) (outcome : VerifierOutcome)
+pub completes_noted : (jobs : VerifierJobs) (taken : Option ℕ) (answer : Option (Result Span GrantFault)) (outcome : VerifierOutcome)
     (first now : LinkSnapshot)
     → IsStatement jobs.first.task.statement → HasTaken jobs taken now.log → CompletesForEach jobs answer outcome first now → VerifierCompletes (noted_job jobs taken) answer outcome first now
 completes_noted jobs None answer outcome first now stated has completes prover peer = completes prover (record {
@@ -485,7 +497,7 @@ sends_rightly job (lacks_hello fault) first now ranges law known has =
 sends_rightly job (turns_away fault) first now ranges law known has =
     ungranted_refused job.task.statement.kind (verifier_fault_outcome fault) (hello_code fault) has.said first now has.is has.form (hello_refusal fault) has.refused
 sends_rightly job (lacks_units fault) first now ranges law known has =
-    ungranted_refused job.task.statement.kind (lease_outcome fault) (lease_code fault) has.greeting.hello first now (greeting_is_hello job known has.greeting)
+    ungranted_refused job.task.statement.kind (grant_outcome fault) (grant_code fault) has.greeting.hello first now (greeting_is_hello job known has.greeting)
     has.greeting.fits.form (lease_refusal fault) has.refused
 sends_rightly job (lacks_grant span) first now ranges law known has =
     sends_lacking job span first now ranges law known (begins_within job span has.0) has.1
@@ -559,7 +571,7 @@ accepts_exactly job (lacks_hello fault) first now ranges law cut said known has 
 accepts_exactly job (turns_away fault) first now ranges law cut said known has accepted =
     absurd (ungranted_is_cut job (verifier_fault_outcome fault) now.log cut known (sends_rightly job (turns_away fault) first now ranges law known has) accepted)
 accepts_exactly job (lacks_units fault) first now ranges law cut said known has accepted =
-    absurd (ungranted_is_cut job (lease_outcome fault) now.log cut known (sends_rightly job (lacks_units fault) first now ranges law known has) accepted)
+    absurd (ungranted_is_cut job (grant_outcome fault) now.log cut known (sends_rightly job (lacks_units fault) first now ranges law known has) accepted)
 accepts_exactly job (lacks_grant span) first now ranges law cut said known has accepted = absurd (ungranted_is_cut job NoMemory now.log cut known
     (ungranted_refused job.task.statement.kind NoMemory 4 has.1.greeting.hello first now (greeting_is_hello job known has.1.greeting) has.1.greeting.fits.form refl
     has.1.refused) accepted)

@@ -14,12 +14,12 @@ use Rattle.session_laws.specs.Serving.{ServedSessionExists}
 use Rattle.session_laws.specs.Rounds.{RepliesAreInRange}
 use Rattle.frame_link.specs.Lines.{LinkSnapshot}
 use Rattle.frame_link.proofs.LineLemmas.{none_is_some, front_goes_on, longest, frame_most}
-use Rattle.lease_store.specs.declared.LeaseFault.{LeaseFault}
+use Rattle.lease_store.specs.declared.grantor.GrantFault.{GrantFault}
 use Rattle.session_core.specs.Jobs.{VerifierJob, units_of_job, granted_from, VerifierJobs, AreVerifierJobs, IsFirstFor, IsHelloOf, all_jobs, job_at, noted_job}
 use Rattle.session_core.specs.Judgements.{verdict_in}
 use Rattle.session_core.specs.Cores.{VerifierStage, VerifierAnswers, awaits_hello, owes_grant, behind_grant, awaits_asks, awaits_corrections, awaits_sums, awaits_openings, has_judged, AreAsksSoFar, verifier_expects}
 use Rattle.session_core.specs.declared.judgement.Judgement.{Judgement}
-use Rattle.session_verifier.specs.Outcomes.{HasRefusal, lease_code, refusal_of, hello_code, verifier_line_outcome, verifier_fault_outcome, judgement_outcome, lease_outcome}
+use Rattle.session_verifier.specs.Outcomes.{HasRefusal, grant_code, refusal_of, hello_code, verifier_line_outcome, verifier_fault_outcome, judgement_outcome, grant_outcome}
 use Rattle.session_verifier.specs.Stages.{IsHeldJob, IsVerifierLogAt, IsAnswer, IsBehind, IsStopped, ComesThere, RefusesAfter, last_turn, Ending, HasEnding, answer_at, outcome_at, lacks_hello, turns_away, lacks_units, lacks_grant, loses_grant, stops_behind, judges}
 use Rattle.session_verifier.specs.Notes.{BeginsRefusal, TellsRightly, IsAllSent, IsTold, BeginsByHello, HasHonestProver, TakesStatement, HasTaken, CompletesForEach, HasHonestCaller}
 use Rattle.session_verifier.proofs.StageLemmas.{logs_on, grant_behind, either_kind, behind_direct, behind_extended, turns_append, one_expected, few_of}
@@ -243,7 +243,7 @@ is_told job (lacks_hello fault) first now ranges law known has =
 is_told job (turns_away fault) first now ranges law known has =
     told_refusal job None (verifier_fault_outcome fault) (hello_code fault) has.said first now has.is (hello_refusal fault) (λ log begins. inr begins) has.refused
 is_told job (lacks_units fault) first now ranges law known has =
-    told_refusal job None (lease_outcome fault) (lease_code fault) has.greeting.hello first now (greeting_is_hello job known has.greeting)
+    told_refusal job None (grant_outcome fault) (grant_code fault) has.greeting.hello first now (greeting_is_hello job known has.greeting)
     (lease_refusal fault) (λ log begins. inr begins) has.refused
 is_told job (lacks_grant span) first now ranges law known has =
     told_refusal job (Some span) NoMemory 4 has.1.greeting.hello first now (greeting_is_hello job known has.1.greeting) refl
@@ -701,7 +701,7 @@ pub record AreLaws : Type 0 where
   pub accepted : HonestWholeIsAccepted
 
 -- where a statement was taken it is the caller's
-same_number : (jobs : VerifierJobs) (taken : Option ℕ) (answer : Option (Result Span LeaseFault)) (span : Span) (outcome : VerifierOutcome) (prover : ProverTask)
+same_number : (jobs : VerifierJobs) (taken : Option ℕ) (answer : Option (Result Span GrantFault)) (span : Span) (outcome : VerifierOutcome) (prover : ProverTask)
     (log : List (Side × ℕ)) → AreVerifierJobs jobs → AllBelow (length (all_jobs jobs)) (λ n. IsStatement (job_at jobs n).task.statement)
     → TakesStatement jobs taken answer outcome log
     → answer ≡ Some (Ok span) → (caller : HasHonestCaller jobs prover outcome log) → HasHonestProver (noted_job jobs taken) prover outcome log

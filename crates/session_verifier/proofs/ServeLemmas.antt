@@ -14,7 +14,7 @@ use Rattle.zk_model.specs.declared.Span.{Span}
 use Rattle.frame_link.specs.declared.fault.LineFault.{LineFault}
 use Rattle.frame_link.specs.declared.fault.LineFault.TheVariants as fault
 use Rattle.frame_link.proofs.LineLemmas.{none_is_some}
-use Rattle.lease_store.specs.declared.LeaseFault.{LeaseFault}
+use Rattle.lease_store.specs.declared.grantor.GrantFault.{GrantFault}
 use Rattle.session_core.specs.declared.fault.VerifierFault.{VerifierFault}
 use Rattle.session_core.specs.declared.fault.VerifierFault.TheVariants as session
 use Rattle.session_core.specs.declared.judgement.Judgement.{Judgement}
@@ -24,12 +24,13 @@ use Rattle.session_core.specs.declared.fault.HelloDiffers.{HelloDiffers}
 use Rattle.session_core.specs.declared.fault.HelloDiffers.TheVariants as hello_differs
 use Rattle.session_core.specs.declared.judgement.Judgement.TheVariants as judged
 use Rattle.lease_store.specs.declared.LeaseFault.TheVariants as no_lease
+use Rattle.lease_store.specs.declared.grantor.GrantFault.TheVariants as no_grant
 use Rattle.session_driver.specs.Runs.{Turn, said, whole_log, IsTurn, Goes}
 use Rattle.session_driver.specs.declared.drive.Outcome.{Outcome}
 use Rattle.session_driver.specs.declared.drive.Outcome.TheVariants.{Done, Refused, Cut}
 use Rattle.session_driver.proofs.Going.{whole_more, goes_keeps}
 use Rattle.session_laws.specs.Rounds.{RepliesAreInRange}
-use Rattle.session_verifier.specs.Outcomes.{lease_code, verifier_line_outcome, hello_code, judgement_outcome, lease_outcome, verifier_fault_outcome}
+use Rattle.session_verifier.specs.Outcomes.{grant_code, verifier_line_outcome, hello_code, judgement_outcome, grant_outcome, verifier_fault_outcome}
 use Rattle.session_verifier.specs.Serving.{Grants, Leases, Served, Met, Greeted, GrantsUnits, VerifierAnswersBehind, ServingAnswers, ServingRefuses, RefusesHello, VerifierRefusesBehind, RefusesLease, LacksGrantFrame, IsToldAs, lack_code_at, served, serves}
 use Rattle.session_verifier.specs.Stages.{IsBehind, Greets, IsVerifierLogAt, IsStopped, IsRefusedGrant, IsCourse, RefusesAfter, Ending, HasEnding, answer_at, outcome_at, lacks_hello, turns_away, lacks_units, lacks_grant, loses_grant, stops_behind, judges, AreUnits}
 use Rattle.session_verifier.specs.Notes.{HasTaken, BeginsByHello, TakesStatement}
@@ -204,7 +205,7 @@ no_lack_behind start other behind = refl
 -- where units were not asked for, the one who leases them is as it was; else it was asked once
 abbrev pub IsLeaseTold : {R : Type 0} → Grants R → ℕ → R → R → Type 0
 IsLeaseTold grants count old new =
-    ((new ≡ old) × (grants.answer new ≡ None)) ⊎ ((answer : Result Span LeaseFault) × Leases grants count answer old new)
+    ((new ≡ old) × (grants.answer new ≡ None)) ⊎ ((answer : Result Span GrantFault) × Leases grants count answer old new)
 
 pub lease_total : {R : Type 0} (grants : Grants R) (count : ℕ) (old new : R) → IsLeaseTold grants count old new → grants.total new ≡ grants.total old
 lease_total grants count old new (inl none) = ap grants.total none.0
@@ -273,7 +274,7 @@ greeted_by jobs old new frame waits takes placed job same greets =
       taken = number.1;
     }
 
-pub leases_for : {R : Type 0} (grants : Grants R) (count : ℕ) (asked job : VerifierJob) (answer : Result Span LeaseFault) (old new : R)
+pub leases_for : {R : Type 0} (grants : Grants R) (count : ℕ) (asked job : VerifierJob) (answer : Result Span GrantFault) (old new : R)
     → count ≡ units_of_job asked → asked ≡ job → Leases grants count answer old new → Leases grants (units_of_job job) answer old new
 leases_for grants count asked job answer old new is same leased =
     subst (λ n. Leases grants n answer old new) (is ∙ ap units_of_job same) leased
@@ -286,10 +287,13 @@ taken_within jobs (Some n) log has = has.1.within
 
 -- ---- a hello that differs
 
-lease_no_hello : (fault : LeaseFault) (differs : HelloDiffers) → ¬ (lease_outcome fault ≡ BadHello differs)
-lease_no_hello (no_lease.Exhausted at count total) differs is = cc
-lease_no_hello no_lease.Device differs is = cc
-lease_no_hello (no_lease.Broken first) differs is = cc
+lease_no_hello : (fault : GrantFault) (differs : HelloDiffers) → ¬ (grant_outcome fault ≡ BadHello differs)
+lease_no_hello (no_grant.Lease (no_lease.Exhausted at count total)) differs is = cc
+lease_no_hello (no_grant.Lease no_lease.Device) differs is = cc
+lease_no_hello (no_grant.Lease (no_lease.Broken first)) differs is = cc
+lease_no_hello no_grant.NoMemory differs is = cc
+lease_no_hello (no_grant.NoBlock wants) differs is = cc
+lease_no_hello no_grant.Broker differs is = cc
 
 memory_no_hello : (differs : HelloDiffers) → ¬ (NoMemory ≡ BadHello differs)
 memory_no_hello differs is = cc
@@ -511,7 +515,7 @@ module _ {R : Type 0} (jobs : VerifierJobs) (grants : Grants R) (old : R) (once 
       same_hello = ap (hello_in greeted.met.hello) (sym greeted.greets.is ∙ greeted.met.is)
 
       -- units were asked for
-      asked_noted : (told : VerifierOutcome) (answer : Result Span LeaseFault)
+      asked_noted : (told : VerifierOutcome) (answer : Result Span GrantFault)
           → (more : List (Side × ℕ)) × (now.log ≡ came_hello ++ more)
           → Leases grants (units_of_job new.core.job) answer mid.grantor new.grantor → ((differs : HelloDiffers) → ¬ (told ≡ BadHello differs))
           → IsCourseOf new.core.job told → IsNoted told
@@ -575,7 +579,7 @@ module _ {R : Type 0} (jobs : VerifierJobs) (grants : Grants R) (old : R) (once 
           answer_is = by.leased.told;
           granted_is = by.granted ∙ (none_leased by.greeted.met).0;
           outcome_is = by.outcome_is;
-          has = refused_grant by.greeted code (lease_code by.fault) by.code_is tried;
+          has = refused_grant by.greeted code (grant_code by.fault) by.code_is tried;
         })
 
     lacking_noted : (told : VerifierOutcome) (code : Option ℕ) → LacksGrantFrame jobs grants mid frame told code new

@@ -33,6 +33,8 @@ outcome_words (ended.Exhausted at count total) =
     codes "exhausted " ++ decimal at ++ codes " " ++ decimal count ++ codes " " ++ decimal total
 outcome_words ended.Device = codes "device"
 outcome_words (ended.Broken first) = codes "journal " ++ decimal first
+outcome_words (ended.NoBlock wants) = codes "block " ++ decimal wants
+outcome_words ended.Broker = codes "broker"
 outcome_words ended.Link = codes "link"
 outcome_words ended.NoMemory = codes "memory"
 
@@ -77,10 +79,12 @@ abbrev pub start_of : Option Span → ℕ
 start_of None = 2 ^ 64 - 1
 start_of (Some span) = span.start
 
--- the status of a session: 1 where it was rejected, or its peer ended, or sent another frame or another hello
+-- the status of a session: 1 where it was rejected, or its peer ended, or sent another frame or another hello, or where no block came
+-- that had its units
 abbrev pub outcome_status : VerifierOutcome → ℕ
 outcome_status ended.Accepted = 0
 outcome_status ended.Link = 4
+outcome_status ended.Broker = 4
 outcome_status ended.Device = 5
 outcome_status (ended.Broken first) = 5
 outcome_status (ended.Exhausted at count total) = 6

@@ -23,18 +23,19 @@ use Rattle.frame_link.specs.Lines.{LinkSnapshot, IsWithinFrame}
 use Rattle.frame_link.specs.declared.fault.LineFault.{LineFault}
 use Rattle.frame_link.specs.declared.fault.LineFault.TheVariants as line
 use Rattle.session_driver.specs.Leaving.{RefusesSends}
-use Rattle.lease_store.specs.declared.LeaseFault.{LeaseFault}
+use Rattle.lease_store.specs.declared.grantor.GrantFault.{GrantFault}
 use Rattle.lease_store.specs.declared.LeaseFault.TheVariants as lease
+use Rattle.lease_store.specs.declared.grantor.GrantFault.TheVariants as grant
 use Rattle.session_core.specs.Jobs.{VerifierJob, VerifierJobs, IsFirstFor, IsForNone, job_at, units_of_job, granted_from}
 use Rattle.session_core.specs.declared.fault.HelloDiffers.{HelloDiffers}
 use Rattle.session_core.specs.Judgements.{IsJudgement, verdict_in}
 use Rattle.session_core.specs.Cores.{VerifierStage, DiffersFirst}
 use Rattle.session_core.specs.declared.judgement.Judgement.{Judgement}
 use Rattle.session_core.specs.declared.judgement.Judgement.TheVariants as judged
-use Rattle.session_verifier.specs.Outcomes.{HasRefusal, lease_outcome, judgement_outcome, refusal_of}
+use Rattle.session_verifier.specs.Outcomes.{HasRefusal, grant_outcome, judgement_outcome, refusal_of}
 use Rattle.session_verifier.specs.Stages.{Greeting, IsGrantUnsent, IsJudged, IsRefusedGrant, IsStopped, IsWholeHello, RefusesAfter}
 use Rattle.session_verifier.specs.declared.note.VerifierOutcome.{VerifierOutcome}
-use Rattle.session_verifier.specs.declared.note.VerifierOutcome.TheVariants.{Accepted, RejectedSum, RejectedOpening, PeerEnded, BadFrame, BadHello, Exhausted, Device, Broken, Link, NoMemory}
+use Rattle.session_verifier.specs.declared.note.VerifierOutcome.TheVariants.{Accepted, RejectedSum, RejectedOpening, PeerEnded, BadFrame, BadHello, Exhausted, Device, Broken, NoBlock, Broker, Link, NoMemory}
 
 -- A whole session, with a grant of the units that were leased, that the verifier serves: it is in order, the challenge is its
 -- coin, and its verdict, which was sent, is that of its checks, with both sides of the equation that fails.
@@ -122,7 +123,7 @@ KeepsKeys job log = (prover : ProverFile) (setup : Setup) (pairs : List Pair)
 -- units were leased, and the session was judged so: its log is whole, and each answer was sent by one send
 pub record HasJudged
     (job : VerifierJob)
-    (answer : Option (Result Span LeaseFault))
+    (answer : Option (Result Span GrantFault))
     (judgement : Judgement)
     (first now : LinkSnapshot) : Type 0 where
   pub span : Span
@@ -135,7 +136,7 @@ StopsSomewhere job fault first now = (stage : VerifierStage) × IsStopped job st
 
 -- units were leased, and the one send of their grant was refused
 abbrev pub FailsToGrant :
-    VerifierJob → Option (Result Span LeaseFault) → LineFault → LinkSnapshot → LinkSnapshot → Type 0
+    VerifierJob → Option (Result Span GrantFault) → LineFault → LinkSnapshot → LinkSnapshot → Type 0
 FailsToGrant job answer fault first now =
     (span : Span) × (answer ≡ Some (Ok span)) × IsGrantUnsent job span.start fault first now
 
@@ -147,26 +148,26 @@ RefusesDiffering job differs first now = (said : Hello)
 -- memory was missing in the grant's place, after a whole hello: refusal 4 was sent; units were leased only after one for the statement
 pub record LacksGrant
     (job : VerifierJob)
-    (answer : Option (Result Span LeaseFault))
+    (answer : Option (Result Span GrantFault))
     (first now : LinkSnapshot) : Type 0 where
   pub said : Hello
   pub is : IsHello said
   pub fits : IfSome answer (λ _. IsHelloFor job.task.file.id job.task.statement said)
   pub refused : RefusesAfter said 4 first now
 
--- no lease was refused
-abbrev pub RefusesNoLease : Option (Result Span LeaseFault) → Type 0
-RefusesNoLease answer = (fault : LeaseFault) → ¬ (answer ≡ Some (Err fault))
+-- no units were refused
+abbrev pub RefusesNoLease : Option (Result Span GrantFault) → Type 0
+RefusesNoLease answer = (fault : GrantFault) → ¬ (answer ≡ Some (Err fault))
 
--- a lease that was refused is the outcome
-abbrev pub AnswersLease : Option (Result Span LeaseFault) → VerifierOutcome → Type 0
-AnswersLease answer outcome = (fault : LeaseFault) → answer ≡ Some (Err fault) → outcome ≡ lease_outcome fault
+-- why units were refused is the outcome
+abbrev pub AnswersLease : Option (Result Span GrantFault) → VerifierOutcome → Type 0
+AnswersLease answer outcome = (fault : GrantFault) → answer ≡ Some (Err fault) → outcome ≡ grant_outcome fault
 
 -- Why a session ended so: what was judged; what came; what the one who leases units answered, and the refusal that was sent; the
--- link failed, in a receive or in the send of an answer; or memory was missing. Where a lease was refused, it is the cause, and no
+-- link failed, in a receive or in the send of an answer; or memory was missing. Where units were refused, that is the cause, and no
 -- fault beside it.
 abbrev pub EndsBecause :
-    VerifierJob → Option (Result Span LeaseFault) → VerifierOutcome → LinkSnapshot → LinkSnapshot → Type 0
+    VerifierJob → Option (Result Span GrantFault) → VerifierOutcome → LinkSnapshot → LinkSnapshot → Type 0
 EndsBecause job answer Accepted first now = HasJudged job answer judged.Accepted first now
 EndsBecause job answer (RejectedSum section left right) first now =
     HasJudged job answer (judged.RejectedSum section left right) first now
@@ -176,15 +177,19 @@ EndsBecause job answer (PeerEnded at) first now = StopsSomewhere job (line.PeerE
 EndsBecause job answer (BadFrame at) first now = StopsSomewhere job (line.BadFrame at) first now
 EndsBecause job answer (BadHello differs) first now = RefusesDiffering job differs first now
 EndsBecause job answer (Exhausted at count total) first now =
-    (answer ≡ Some (Err (lease.Exhausted at count total))) × IsRefusedGrant job 2 first now
-EndsBecause job answer Device first now = (answer ≡ Some (Err lease.Device)) × IsRefusedGrant job 3 first now
-EndsBecause job answer (Broken at) first now = (answer ≡ Some (Err (lease.Broken at))) × IsRefusedGrant job 3 first now
+    (answer ≡ Some (Err (grant.Lease (lease.Exhausted at count total)))) × IsRefusedGrant job 2 first now
+EndsBecause job answer Device first now = (answer ≡ Some (Err (grant.Lease lease.Device))) × IsRefusedGrant job 3 first now
+EndsBecause job answer (Broken at) first now =
+    (answer ≡ Some (Err (grant.Lease (lease.Broken at)))) × IsRefusedGrant job 3 first now
+EndsBecause job answer (NoBlock wants) first now = (answer ≡ Some (Err (grant.NoBlock wants))) × IsRefusedGrant job 3 first now
+EndsBecause job answer Broker first now = (answer ≡ Some (Err grant.Broker)) × IsRefusedGrant job 3 first now
 EndsBecause job answer Link first now =
     RefusesNoLease answer × (StopsSomewhere job line.Link first now ⊎ FailsToGrant job answer line.Link first now)
 EndsBecause job answer NoMemory first now =
-    RefusesNoLease answer
+    (RefusesNoLease answer
     × (StopsSomewhere job line.NoMemory first now ⊎ LacksGrant job answer first now
-    ⊎ FailsToGrant job answer line.NoMemory first now)
+    ⊎ FailsToGrant job answer line.NoMemory first now))
+    ⊎ ((answer ≡ Some (Err grant.NoMemory)) × IsRefusedGrant job 4 first now)
 
 -- a log begins by these bytes, which are a hello
 abbrev pub BeginsByHello : Hello → List (Side × ℕ) → Type 0
@@ -195,7 +200,7 @@ abbrev pub HasTaken : VerifierJobs → Option ℕ → List (Side × ℕ) → Typ
 HasTaken jobs taken log = IfSome taken (λ n. (said : Hello) × IsFirstFor jobs n said × BeginsByHello said log)
 
 -- Where no statement was taken, no units were asked for; and a hello that differs is for no statement.
-pub record TakesStatement (jobs : VerifierJobs) (taken : Option ℕ) (answer : Option (Result Span LeaseFault)) (outcome : VerifierOutcome)
+pub record TakesStatement (jobs : VerifierJobs) (taken : Option ℕ) (answer : Option (Result Span GrantFault)) (outcome : VerifierOutcome)
     (log : List (Side × ℕ)) : Type 0 where
   pub has : HasTaken jobs taken log
   pub none : taken ≡ None → answer ≡ None
@@ -203,7 +208,7 @@ pub record TakesStatement (jobs : VerifierJobs) (taken : Option ℕ) (answer : O
       → (taken ≡ None) × ((said : Hello) × IsForNone jobs said × BeginsByHello said log)
 
 -- no units are leased before a hello for the job's file and statement came
-abbrev pub LeasesBehindHello : VerifierJob → Option (Result Span LeaseFault) → List (Side × ℕ) → Type 0
+abbrev pub LeasesBehindHello : VerifierJob → Option (Result Span GrantFault) → List (Side × ℕ) → Type 0
 LeasesBehindHello job answer log =
     IfSome answer (λ _. (greeting : Greeting job) × BeginsWith log (bytes_from Prover (hello_frame greeting.hello)))
 
@@ -243,14 +248,14 @@ pub record HasHonestProver (job : VerifierJob) (prover : ProverTask) (outcome : 
   pub honest : IsFromHonestProver prover log
   pub ended : (at : ℕ) → outcome ≡ PeerEnded at → HasEndedHonestly prover log
 
--- where no lease was refused and the link's count did not rise, the session is accepted, unless memory was missing
-abbrev pub IsAcceptedInCalm : Option (Result Span LeaseFault) → VerifierOutcome → LinkSnapshot → LinkSnapshot → Type 0
+-- where no units were refused and the link's count did not rise, the session is accepted, unless memory was missing
+abbrev pub IsAcceptedInCalm : Option (Result Span GrantFault) → VerifierOutcome → LinkSnapshot → LinkSnapshot → Type 0
 IsAcceptedInCalm answer outcome first now =
     RefusesNoLease answer → ¬ Rose first.faults now.faults → (outcome ≡ Accepted) ⊎ (outcome ≡ NoMemory)
 
 -- so it is with an honest peer
 abbrev pub VerifierCompletes :
-    VerifierJob → Option (Result Span LeaseFault) → VerifierOutcome → LinkSnapshot → LinkSnapshot → Type 0
+    VerifierJob → Option (Result Span GrantFault) → VerifierOutcome → LinkSnapshot → LinkSnapshot → Type 0
 VerifierCompletes job answer outcome first now =
     (prover : ProverTask) → HasHonestProver job prover outcome now.log → IsAcceptedInCalm answer outcome first now
 
@@ -264,6 +269,6 @@ pub record HasHonestCaller (jobs : VerifierJobs) (prover : ProverTask) (outcome 
 
 -- and with an honest prover of whichever statement
 abbrev pub CompletesForEach :
-    VerifierJobs → Option (Result Span LeaseFault) → VerifierOutcome → LinkSnapshot → LinkSnapshot → Type 0
+    VerifierJobs → Option (Result Span GrantFault) → VerifierOutcome → LinkSnapshot → LinkSnapshot → Type 0
 CompletesForEach jobs answer outcome first now =
     (prover : ProverTask) → HasHonestCaller jobs prover outcome now.log → IsAcceptedInCalm answer outcome first now

@@ -7,7 +7,7 @@ use Rattle.zk_model.specs.Frames.{hello as greeting}
 use Rattle.zk_model.specs.Transcript.{Hello, IsHello}
 use Rattle.zk_model.specs.declared.limits.TheConstants.{MAX_UNITS}
 use Rattle.zk_model.specs.declared.Span.{Span}
-use Rattle.lease_store.specs.declared.LeaseFault.{LeaseFault}
+use Rattle.lease_store.specs.declared.grantor.GrantFault.{GrantFault}
 use Rattle.session_core.specs.Jobs.{VerifierJob, VerifierJobs, TakesHello, all_jobs, noted_job, units_of_job, granted_from}
 use Rattle.session_core.specs.Cores.{VerifierStage, VerifierState, VerifierAnswers, VerifierRefuses, awaits_hello, owes_grant, behind_grant, awaits_asks, awaits_corrections, awaits_sums, awaits_openings, has_judged, has_refused, judgement_at, verifier_expects}
 use Rattle.session_core.specs.declared.fault.VerifierFault.{VerifierFault}
@@ -16,7 +16,7 @@ use Rattle.session_driver.specs.Runs.{Moves}
 use Rattle.session_driver.specs.declared.drive.Outcome.{Outcome}
 use Rattle.session_driver.specs.declared.drive.Outcome.TheVariants.{Done, Refused, Cut}
 use Rattle.session_verifier.specs.Stages.{Greets, IsBehind, IsHeldJob, AreUnits}
-use Rattle.session_verifier.specs.Outcomes.{hello_code, judgement_outcome, lease_code, lease_outcome, verifier_line_outcome, verifier_fault_outcome}
+use Rattle.session_verifier.specs.Outcomes.{hello_code, judgement_outcome, grant_code, grant_outcome, verifier_line_outcome, verifier_fault_outcome}
 use Rattle.session_verifier.specs.declared.note.VerifierOutcome.{VerifierOutcome}
 use Rattle.session_verifier.specs.declared.note.VerifierOutcome.TheVariants.{NoMemory}
 
@@ -25,19 +25,19 @@ use Rattle.session_verifier.specs.declared.note.VerifierOutcome.TheVariants.{NoM
 -- What one who leases units tells: what it answered, how many it was asked for, of how many it leases, for how many it may be
 -- asked, and what an answer makes of it.
 pub record Grants (R : Type 0) : Type 1 where
-  pub answer : R → Option (Result Span LeaseFault)
+  pub answer : R → Option (Result Span GrantFault)
   pub asked : R → Option ℕ
   pub total : R → ℕ
   pub may : R → ℕ → Type 0
-  pub moves : R → ℕ → Result Span LeaseFault → R → Type 0
+  pub moves : R → ℕ → Result Span GrantFault → R → Type 0
 
 -- by these
-abbrev pub grants_of : {R : Type 0} → (R → Option (Result Span LeaseFault)) → (R → Option ℕ) → (R → ℕ) → (R → ℕ → Type 0)
-    → (R → ℕ → Result Span LeaseFault → R → Type 0) → Grants R
+abbrev pub grants_of : {R : Type 0} → (R → Option (Result Span GrantFault)) → (R → Option ℕ) → (R → ℕ) → (R → ℕ → Type 0)
+    → (R → ℕ → Result Span GrantFault → R → Type 0) → Grants R
 grants_of answer asked total may moves = record { answer = answer; asked = asked; total = total; may = may; moves = moves }
 
 -- it was asked for so many units, and answered so
-pub record Leases {R : Type 0} (grants : Grants R) (count : ℕ) (answer : Result Span LeaseFault) (old new : R) : Type 0 where
+pub record Leases {R : Type 0} (grants : Grants R) (count : ℕ) (answer : Result Span GrantFault) (old new : R) : Type 0 where
   pub told : grants.answer new ≡ Some answer
   pub asked : grants.asked new ≡ Some count
   pub total : grants.total new ≡ grants.total old
@@ -141,10 +141,10 @@ pub record VerifierRefusesBehind {R : Type 0} (old : Served R) (frame : Frame) (
 pub record RefusesLease {R : Type 0} (jobs : VerifierJobs) (grants : Grants R) (old : Served R) (frame : Frame) (outcome : VerifierOutcome)
     (code : Option ℕ) (new : Served R) : Type 0 where
   pub greeted : Greeted jobs old frame new
-  pub fault : LeaseFault
+  pub fault : GrantFault
   pub leased : Leases grants (units_of_job new.core.job) (Err fault) old.grantor new.grantor
-  pub outcome_is : outcome ≡ lease_outcome fault
-  pub code_is : code ≡ Some (lease_code fault)
+  pub outcome_is : outcome ≡ grant_outcome fault
+  pub code_is : code ≡ Some (grant_code fault)
   pub granted : new.granted ≡ old.granted
 
 -- a hello for a statement came, and units were leased, but memory was missing for their grant

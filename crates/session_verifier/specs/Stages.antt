@@ -20,8 +20,8 @@ use Rattle.session_core.specs.declared.fault.VerifierFault.{VerifierFault}
 use Rattle.session_core.specs.declared.judgement.Judgement.{Judgement}
 use Rattle.session_driver.specs.Leaving.{ComesAt, GoesWell, IsLostBy, StopsShort, Tries}
 use Rattle.zk_model.specs.declared.Span.{Span}
-use Rattle.lease_store.specs.declared.LeaseFault.{LeaseFault}
-use Rattle.session_verifier.specs.Outcomes.{hello_code, judgement_outcome, lease_outcome, lease_code, verifier_line_outcome, verifier_fault_outcome}
+use Rattle.lease_store.specs.declared.grantor.GrantFault.{GrantFault}
+use Rattle.session_verifier.specs.Outcomes.{hello_code, judgement_outcome, grant_outcome, grant_code, verifier_line_outcome, verifier_fault_outcome}
 use Rattle.session_verifier.specs.declared.note.VerifierOutcome.{VerifierOutcome}
 use Rattle.session_verifier.specs.declared.note.VerifierOutcome.TheVariants.{NoMemory}
 use Rattle.session_pool.specs.Notes.{granted_by}
@@ -196,14 +196,14 @@ pub record AreUnits (job : VerifierJob) (span : Span) : Type 0 where
 pub data Ending : Type 0 where
   lacks_hello : LineFault → Ending
   turns_away : VerifierFault → Ending
-  lacks_units : LeaseFault → Ending
+  lacks_units : GrantFault → Ending
   lacks_grant : Span → Ending
   loses_grant : Span → LineFault → Ending
   stops_behind : Span → LineFault → Ending
   judges : Span → Judgement → Ending
 
 -- what the one who leases units answered then, if it was asked
-abbrev pub answer_at : Ending → Option (Result Span LeaseFault)
+abbrev pub answer_at : Ending → Option (Result Span GrantFault)
 answer_at (lacks_hello fault) = None
 answer_at (turns_away fault) = None
 answer_at (lacks_units fault) = Some (Err fault)
@@ -216,7 +216,7 @@ answer_at (judges span judgement) = Some (Ok span)
 abbrev pub outcome_at : Ending → VerifierOutcome
 outcome_at (lacks_hello fault) = verifier_line_outcome fault
 outcome_at (turns_away fault) = verifier_fault_outcome fault
-outcome_at (lacks_units fault) = lease_outcome fault
+outcome_at (lacks_units fault) = grant_outcome fault
 outcome_at (lacks_grant span) = NoMemory
 outcome_at (loses_grant span fault) = verifier_line_outcome fault
 outcome_at (stops_behind span fault) = verifier_line_outcome fault
@@ -226,7 +226,7 @@ outcome_at (judges span judgement) = judgement_outcome judgement
 abbrev pub HasEnding : VerifierJob → Ending → LinkSnapshot → LinkSnapshot → Type 0
 HasEnding job (lacks_hello fault) first now = IsStopped job awaits_hello fault first now
 HasEnding job (turns_away fault) first now = IsTurnedAway job fault first now
-HasEnding job (lacks_units fault) first now = IsRefusedGrant job (lease_code fault) first now
+HasEnding job (lacks_units fault) first now = IsRefusedGrant job (grant_code fault) first now
 HasEnding job (lacks_grant span) first now = AreUnits job span × IsRefusedGrant job 4 first now
 HasEnding job (loses_grant span fault) first now = AreUnits job span × IsGrantUnsent job span.start fault first now
 HasEnding job (stops_behind span fault) first now = AreUnits job span × VerifierStopsBehind job span.start fault first now
@@ -235,7 +235,7 @@ HasEnding job (judges span judgement) first now = AreUnits job span × IsJudged 
 -- what came of a session
 pub record IsCourse
     (job : VerifierJob)
-    (answer : Option (Result Span LeaseFault))
+    (answer : Option (Result Span GrantFault))
     (granted : Option Span)
     (outcome : VerifierOutcome)
     (first now : LinkSnapshot) : Type 0 where

@@ -10,6 +10,7 @@
 #![tactic(auto)]
 
 mod laws;
+mod lead;
 mod log_desk;
 mod note;
 mod note_lines;
@@ -20,6 +21,7 @@ mod verification;
 mod verify;
 
 pub use laws::{shown_is_accepted, shown_is_found, shown_solves};
+pub use lead::lead_session;
 pub use log_desk::{KeptLogs, LogDesk, LogKeeper, LogLoan, Watch};
 pub use note::{SessionNote, VerifierOutcome};
 pub use note_lines::order_notes;

@@ -1,9 +1,10 @@
 // What came of a session at the verifier.
 ghost use Rattle.std.specs.Prelude.{◌≡◌};
-ghost use Rattle.session_verifier.specs.Outcomes.{lease_outcome, verifier_line_outcome, verifier_fault_outcome, judgement_outcome};
+ghost use Rattle.session_verifier.specs.Outcomes.{grant_outcome, verifier_line_outcome, verifier_fault_outcome, judgement_outcome};
 
+use broker_links::Try;
 use frame_link::{LineFault, Log};
-use lease_store::LeaseFault;
+use lease_store::{GrantFault, LeaseFault};
 use mersenne_field::Fe;
 use session_core::{HelloDiffers, Judgement, VerifierFault};
 use zk_model::Span;
@@ -29,22 +30,29 @@ pub enum VerifierOutcome {
     Device,
     /// A call of the journal's disk failed before.
     Broken { first: u64 },
+    /// So many wants to the broker brought no block with enough units.
+    NoBlock { wants: u32 },
+    /// The broker was not reached, or a link to it failed.
+    Broker,
     /// A call of the link failed.
     Link,
     /// Memory was missing.
     NoMemory,
 }
 
-impl From<LeaseFault> for VerifierOutcome {
-    ghost from_gives = { λ fault o. o ≡ lease_outcome fault };
+impl From<GrantFault> for VerifierOutcome {
+    ghost from_gives = { λ fault o. o ≡ grant_outcome fault };
 
-    fn from(fault: LeaseFault) -> Self {
+    fn from(fault: GrantFault) -> Self {
         match fault {
-            LeaseFault::Exhausted { at, count, total } => {
+            GrantFault::Lease(LeaseFault::Exhausted { at, count, total }) => {
                 VerifierOutcome::Exhausted { at, count, total }
             }
-            LeaseFault::Device => VerifierOutcome::Device,
-            LeaseFault::Broken { first } => VerifierOutcome::Broken { first },
+            GrantFault::Lease(LeaseFault::Device) => VerifierOutcome::Device,
+            GrantFault::Lease(LeaseFault::Broken { first }) => VerifierOutcome::Broken { first },
+            GrantFault::NoMemory => VerifierOutcome::NoMemory,
+            GrantFault::NoBlock { wants } => VerifierOutcome::NoBlock { wants },
+            GrantFault::Broker => VerifierOutcome::Broker,
         }
     }
 }
@@ -102,7 +110,8 @@ impl From<Judgement> for VerifierOutcome {
 }
 
 /// What came of a session: the number of the statement that it was about, counted from 0, once a hello was taken; the units that were
-/// granted, if any were; how it ended; all frames that passed; and the link.
+/// granted, if any were; how it ended; all frames that passed; the link; and the tries that were made to get its units of a broker, in
+/// order, where a node granted them.
 #[derive(Drop)]
 pub struct SessionNote<L> {
     pub statement: Option<u32>,
@@ -110,4 +119,5 @@ pub struct SessionNote<L> {
     pub outcome: VerifierOutcome,
     pub log: Log,
     pub link: L,
+    pub tries: Vec<Try<L>>,
 }

@@ -56,6 +56,8 @@ fn write_outcome(alloc: Global, outcome: &VerifierOutcome) -> Result<String, All
         }
         VerifierOutcome::Device => String::from_str(alloc, "device"),
         VerifierOutcome::Broken { first } => Ok(format!(in alloc; "journal {first}")?),
+        VerifierOutcome::NoBlock { wants } => Ok(format!(in alloc; "block {wants}")?),
+        VerifierOutcome::Broker => String::from_str(alloc, "broker"),
         VerifierOutcome::Link => String::from_str(alloc, "link"),
         VerifierOutcome::NoMemory => String::from_str(alloc, "memory"),
     }
@@ -211,10 +213,11 @@ fn outcome_status(outcome: &VerifierOutcome) -> u8
         | VerifierOutcome::RejectedOpening { .. }
         | VerifierOutcome::PeerEnded { .. }
         | VerifierOutcome::BadFrame { .. }
-        | VerifierOutcome::BadHello(_) => 1,
+        | VerifierOutcome::BadHello(_)
+        | VerifierOutcome::NoBlock { .. } => 1,
         VerifierOutcome::Exhausted { .. } => 6,
         VerifierOutcome::Device | VerifierOutcome::Broken { .. } => 5,
-        VerifierOutcome::Link => 4,
+        VerifierOutcome::Link | VerifierOutcome::Broker => 4,
         VerifierOutcome::NoMemory => 7,
     }
 }

@@ -13,7 +13,7 @@ ghost use Rattle.session_core.specs.Cores.{VerifierAnswers, VerifierRefuses, awa
 ghost use Rattle.session_driver.specs.Leaving.{HasCome};
 ghost use Rattle.session_driver.specs.Runs.{IsFresh};
 ghost use Rattle.session_driver.specs.declared.drive.Outcome.TheVariants.{Done};
-ghost use Rattle.session_verifier.specs.Outcomes.{hello_code, lease_code, verifier_fault_outcome};
+ghost use Rattle.session_verifier.specs.Outcomes.{hello_code, grant_code, verifier_fault_outcome};
 ghost use Rattle.session_verifier.specs.Serving.{VerifierAnswersBehind, GrantsUnits, IsPlace, IsServing, IsToldAs, LacksGrantFrame, Leases, VerifierRefusesBehind, RefusesHello, RefusesLease, verifier_frames_left, grants_of, lack_code_at, served, serves};
 ghost use Rattle.session_verifier.specs.Notes.{TakesStatement};
 ghost use Rattle.session_verifier.specs.Stages.{AreUnits, IsBehind, Greets, IsCourse, IsHeldJob};
@@ -21,7 +21,7 @@ ghost use Rattle.session_verifier.specs.declared.note.VerifierOutcome.TheVariant
 
 use crate::note::VerifierOutcome;
 use frame_link::Line;
-use lease_store::{Grantor, LeaseFault};
+use lease_store::{GrantFault, Grantor, LeaseFault};
 use proof_frames::Frame;
 use round_fan::SESSION_WORKERS;
 use session_core::{VerifierCore, VerifierFault, VerifierJob, VerifierJobs};
@@ -51,13 +51,16 @@ fn code_for_hello(fault: &VerifierFault) -> u8
     }
 }
 
-/// The code of the refusal for units that are not leased.
-fn code_for_lease(fault: &LeaseFault) -> u8
-    ensures { result ≡ lease_code fault.now }
+/// The code of the refusal for units that are not granted.
+fn code_for_grant(fault: &GrantFault) -> u8
+    ensures { result ≡ grant_code fault.now }
 {
     match fault {
-        LeaseFault::Exhausted { .. } => 2,
-        LeaseFault::Device | LeaseFault::Broken { .. } => 3,
+        GrantFault::Lease(LeaseFault::Exhausted { .. }) => 2,
+        GrantFault::Lease(LeaseFault::Device | LeaseFault::Broken { .. })
+        | GrantFault::NoBlock { .. }
+        | GrantFault::Broker => 3,
+        GrantFault::NoMemory => 4,
     }
 }
 
@@ -161,7 +164,7 @@ fn grant_units<'a, R: Grantor>(
     meet(alloc, core, frame)?;
     match grantor.grant(job.units()) {
         Err(fault) => {
-            let code = Some(code_for_lease(&fault));
+            let code = Some(code_for_grant(&fault));
             Err(Refusal {
                 fault: VerifierOutcome::from(fault),
                 code,

@@ -1,9 +1,9 @@
 // A verifier's sessions, as a pool leads them.
 ghost use Rattle.std.specs.Prelude.{◌≡◌};
 
+use crate::lead::lead_session;
 use crate::log_desk::LogKeeper;
 use crate::note::SessionNote;
-use crate::verify::{are_stated, verify_session};
 use lease_store::Grantor;
 use session_core::VerifierJobs;
 use session_pool::Session;
@@ -30,7 +30,7 @@ impl<'a, K> Verification<'a, K> {
 
 impl<'a, L: Link + Drop, K: LogKeeper> Session<L> for Verification<'a, K> {
     ghost use Rattle.session_core.specs.Jobs.{noted_job, units_of_job};
-    ghost use Rattle.session_verifier.specs.Outcomes.{lease_fault};
+    ghost use Rattle.session_verifier.specs.Outcomes.{grant_fault};
     ghost use Rattle.session_verifier.specs.Sessions.{IsAnsweredNote};
 
     type Note = SessionNote<L>;
@@ -45,7 +45,7 @@ impl<'a, L: Link + Drop, K: LogKeeper> Session<L> for Verification<'a, K> {
 
     ghost granted = { λ note. note.granted };
 
-    ghost refused = { λ note. lease_fault note.outcome };
+    ghost refused = { λ note. grant_fault note.outcome };
 
     fn lead<R: Threads + Sync, T: Grantor>(
         &self,
@@ -54,8 +54,7 @@ impl<'a, L: Link + Drop, K: LogKeeper> Session<L> for Verification<'a, K> {
         grantor: &mut T,
         link: L,
     ) -> SessionNote<L> {
-        are_stated(self.jobs);
-        let note = verify_session(rt, alloc, self.jobs, grantor, link);
+        let note = lead_session(rt, alloc, self.jobs, grantor, link);
         self.keeper.keep(alloc, &note);
         note
     }

@@ -89,6 +89,7 @@ pub fn verify_session<H: Threads + Sync, L: Link, R: Grantor>(
     ensures faults { CountsFaults result.outcome
         (snapshot Verifier [] (L.state link)) (snapshot Verifier result.log (L.state result.link)) }
     ensures ended { (L.state result.link).is_open ≡ false }
+    ensures untried { result.tries.items ≡ [] }
 {
     honest_turn();
     honest_turn_ends();
@@ -113,5 +114,6 @@ pub fn verify_session<H: Threads + Sync, L: Link, R: Grantor>(
         outcome: course.outcome,
         log,
         link,
+        tries: Vec::new(alloc),
     }
 }

@@ -5,7 +5,7 @@ ghost use Rattle.zk_port.specs.Doors.{IsFreshLink};
 ghost use Rattle.lease_store.specs.Leases.{IsPassAt};
 
 use crate::tests::ceiling_disks::{started, sure_ceilings};
-use lease_store::{Grantor, LeaseFault, LeaseParts};
+use lease_store::{GrantFault, Grantor, LeaseFault, LeaseParts};
 use lease_words::Pass;
 use memory_ports::{Meeting, MemoryDoor, NoFault, ScriptedLink, SureDisk};
 use session_pool::{Served, Session, serve_all};
@@ -42,12 +42,12 @@ struct Asks;
 struct Note {
     units: u32,
     granted: Option<Span>,
-    refused: Option<LeaseFault>,
+    refused: Option<GrantFault>,
 }
 
 impl Note {
     /// Of a session that asked for so many units, and was answered so.
-    fn new(units: u32, granted: Option<Span>, refused: Option<LeaseFault>) -> Self
+    fn new(units: u32, granted: Option<Span>, refused: Option<GrantFault>) -> Self
         ensures { result ≡ record { units = units; granted = granted; refused = refused } }
     {
         Note {
@@ -214,11 +214,11 @@ fn as_many_as_come_and_are_wanted_are_served(rt: HostRuntime) -> Result<(), Fail
 fn sessions_lease_as_many_units_as_each_wants(rt: HostRuntime) -> Result<(), Fail> {
     let alloc: Global = rt.alloc();
     let served = run(&rt, alloc, 1, 9, door_of(alloc, b"hwxwh")?)?;
-    let short = Some(LeaseFault::Exhausted {
+    let short = Some(GrantFault::Lease(LeaseFault::Exhausted {
         at: 48,
         count: MANY,
         total: TOTAL,
-    });
+    }));
     let wanted = [
         Note::new(FEW, Some(Span { start: 0, end: 16 }), None),
         Note::new(MANY, Some(Span { start: 16, end: 48 }), None),

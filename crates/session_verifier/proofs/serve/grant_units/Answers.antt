@@ -30,7 +30,7 @@ returns-in-Err-clause-refused g c =
         leased = leases_for _ c.units.result c.noted-job.result.now c.meet.new.core.job (Err c.in-Err.fault) _ _ c.units.ensures.units (sym job)
             (record { told = c.in-Err.ensures.told; asked = c.in-Err.ensures.asked; total = c.in-Err.ensures.total; moves = c.in-Err.ensures.moves });
         outcome_is = c.from.ensures;
-        code_is = ap (λ (n : ℕ). Some n) c.code_for_lease.ensures;
+        code_is = ap (λ (n : ℕ). Some n) c.code_for_grant.ensures;
         granted = refl;
       })),
     )

@@ -15,16 +15,16 @@ use Rattle.session_verifier.proofs.verify.verify_session.Goals as goal
 use Rattle.session_verifier.proofs.Cuts.{IsKnown}
 use Rattle.session_pool.specs.Notes.{granted_by}
 use Rattle.zk_model.specs.declared.Span.{Span}
-use Rattle.lease_store.specs.declared.LeaseFault.{LeaseFault}
+use Rattle.lease_store.specs.declared.grantor.GrantFault.{GrantFault}
 use Rattle.session_verifier.specs.declared.note.VerifierOutcome.{VerifierOutcome}
 use Rattle.session_verifier.specs.declared.note.VerifierOutcome.TheVariants.{Accepted}
 
 -- the job about the statement that was taken
-abbrev noted_of : (g : Over) (c : goal.After-end-link g) → VerifierJob
+abbrev noted_of : (g : Over) (c : goal.After-new g) → VerifierJob
 noted_of g c = noted_job c.args.jobs.now c.serve-course.result.taken
 
 -- what is known of the job
-known_of : (g : Over) (c : goal.After-end-link g) → IsKnown (noted_of g c)
+known_of : (g : Over) (c : goal.After-new g) → IsKnown (noted_of g c)
 known_of g c = subst IsKnown c.noted-job.ensures.noted (record {
   stated = subst IsStatement c.statement.ensures.statement c.program.ensures.stated;
   file = subst IsVerifierFile c.file.ensures.file c.total-total.ensures.file;
@@ -34,30 +34,30 @@ known_of g c = subst IsKnown c.noted-job.ensures.noted (record {
 })
 
 -- the moments before and after it
-abbrev first_of : (g : Over) (c : goal.After-end-link g) → LinkSnapshot
+abbrev first_of : (g : Over) (c : goal.After-new g) → LinkSnapshot
 first_of g c = snapshot Verifier [] (g.L.Link.state c.args.link)
 
-abbrev now_of : (g : Over) (c : goal.After-end-link g) → LinkSnapshot
+abbrev now_of : (g : Over) (c : goal.After-new g) → LinkSnapshot
 now_of g c = snapshot Verifier c.end-link.result.1 (g.L.Link.state c.end-link.result.0)
 
 -- the line's moments are those
-moments : (g : Over) (c : goal.After-end-link g) (P : LinkSnapshot → LinkSnapshot → Type 0) → P (snapshot_of c.new-line.result) (snapshot_of c.serve-course.new.line)
+moments : (g : Over) (c : goal.After-new g) (P : LinkSnapshot → LinkSnapshot → Type 0) → P (snapshot_of c.new-line.result) (snapshot_of c.serve-course.new.line)
     → P (first_of g c) (now_of g c)
 moments g c P holds =
     let ended = ap (λ s. snapshot s c.end-link.result.1 (g.L.Link.state c.end-link.result.0)) (sym c.serve-course.ensures.side) ∙ c.end-link.ensures.passed in
     subst (λ (q : LinkSnapshot × LinkSnapshot). P q.0 q.1) (λ i. (ap snapshot_of c.new-line.ensures i, sym ended i)) holds
 
 -- it is a course of the job
-course_of : (g : Over) (c : goal.After-end-link g) → IsCourse (noted_of g c) (g.R.Grantor.answer c.serve-course.new.grantor) c.serve-course.result.granted c.serve-course.result.outcome (first_of g c) (now_of g c)
+course_of : (g : Over) (c : goal.After-new g) → IsCourse (noted_of g c) (g.R.Grantor.answer c.serve-course.new.grantor) c.serve-course.result.granted c.serve-course.result.outcome (first_of g c) (now_of g c)
 course_of g c = moments g c (IsCourse (noted_of g c) (g.R.Grantor.answer c.serve-course.new.grantor) c.serve-course.result.granted c.serve-course.result.outcome)
     c.serve-course.ensures.course
 
 -- and what came is what the link no longer has to come
-come_of : (g : Over) (c : goal.After-end-link g) → HasCome Prover (first_of g c) (now_of g c)
+come_of : (g : Over) (c : goal.After-new g) → HasCome Prover (first_of g c) (now_of g c)
 come_of g c = moments g c (HasCome Prover) c.serve-course.ensures.come
 
 -- which statement was taken
-statement_of : (g : Over) (c : goal.After-end-link g)
+statement_of : (g : Over) (c : goal.After-new g)
     → TakesStatement c.args.jobs.now c.serve-course.result.taken
     (g.R.Grantor.answer c.serve-course.new.grantor) c.serve-course.result.outcome c.end-link.result.1
 statement_of g c =
@@ -73,7 +73,7 @@ serve-course-requires-clause-fresh g c κs within = record {
 
 -- the parts of its course that clauses speak of
 abbrev Parts : Type 0
-Parts = Option (Result Span LeaseFault) × (Option Span × VerifierOutcome)
+Parts = Option (Result Span GrantFault) × (Option Span × VerifierOutcome)
 
 pub returns : goal.returns
 returns g c =
@@ -122,4 +122,5 @@ returns g c =
           (subst (λ (q : Parts). TakesStatement c.args.jobs.now serve.result.taken q.0 q.1.1 now.log) (sym same) (statement_of g c)) has);
       faults = subst (λ (q : Parts). CountsFaults q.1.1 first now) same (counts_faults job ending first now has);
       ended = search rules;
+      untried = c.new.ensures.items;
     }
