@@ -389,6 +389,14 @@ def run_deal(outside: Outside, words: List[str]) -> Came:
     return Came(outside.say(lines, 0), "plain")
 
 
+def run_node(outside: Outside, words: List[str]) -> Came:
+    (name, number), _ = sorted_words(words, [], [])
+    node = read_number(number, 0, 1023)
+    total = read_dealt(1, outside.load(name)).total
+    outside.store(f"{name}.node.{node}", journal(0, total, 4096))
+    return Came(outside.say(f"node {node}\n", 0), "plain")
+
+
 def number_at(data: bytes, start: int, size: int = 8) -> int:
     return int.from_bytes(data[start : start + size], "little")
 
@@ -1161,7 +1169,7 @@ def audit_files(outside: Outside, claimed: AnyClaimed, prover: str, verifier: st
 def run(outside: Outside, words: List[str], peers: List[Link]) -> Came:
     """What comes of these words, with these peers at the door, or the first of them to connect to."""
     commands = {"eval": run_eval, "rehearse": run_rehearse, "deal": run_deal, "audit": run_audit, "migrate": run_migrate, "status": run_status}
-    commands |= {"rehearse-arith": run_rehearse_arith, "audit-arith": run_audit_arith}
+    commands |= {"rehearse-arith": run_rehearse_arith, "audit-arith": run_audit_arith, "node": run_node}
     parties = {"serve": run_serve, "serve-many": run_serve_many, "prove": run_prove}
     parties |= {"serve-arith": run_serve_arith, "prove-arith": run_prove_arith}
     try:

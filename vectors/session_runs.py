@@ -623,6 +623,20 @@ def failing_runs() -> List[Scenario]:
     return scenarios + [run("deal y --units 2", show="x.prover,y.prover,y.verifier.journal,z")]
 
 
+def nodes() -> List[Scenario]:
+    """New nodes of a verifier's file: what is stored, and why nothing is."""
+    shown = "x.verifier.node.3,x.verifier.node.1023,x.verifier.journal"
+    scenarios = [run(f"node x.verifier {number}", show=shown) for number in ("3", "1023", "0000000003")]
+    scenarios.append(run("node x.verifier 3", units=5000, files="1,1,10", show=shown))
+    scenarios += [run(f"node x.verifier 3 {more}".rstrip(), show=shown) for more in ("3", "--units 1", "--follow")]
+    scenarios += [run(words) for words in ("node", "node x.verifier", "node x.verifier 1024", "node x.verifier -1", "node x.verifier x", "nodes x.verifier 3")]
+    scenarios += [run("node x.verifier 3", damage=damage) for damage in ("0:0", "8:2", "8:0", "9:3", "40:1", "136:255")]
+    scenarios += [run(words) for words in ("node x.prover 3", "node and.txt 3", "node missing 3")]
+    scenarios += [run("node x.verifier 3", shelf_fails=number, show=shown) for number in (1, 2)]
+    scenarios += [run("node x.verifier 3", shelf_lacks=number, show=shown) for number in (1, 2)]
+    return scenarios + [run("node x.verifier 3", sink_fails=1), run("node x.verifier 3", sink_lacks=1)]
+
+
 def large_runs() -> List[Scenario]:
     """Rehearsals of thousands of gates and units, and faults after thousands of tokens."""
     scenarios = [run("rehearse chain.txt BITS --section 1", circuit="chain.txt", bits="10")]
@@ -1394,7 +1408,7 @@ def all_scenarios() -> List[Scenario]:
     parts += [many_services(), statement_files(), audit_runs()]
     parts += [[run(words, **given) for words, given in arith_runs.rows()]]
     parts += [areas(), heads(), full_claims(), full_ceilings(), refused_sends()]
-    parts += [dealings(), versions(), file_faults(), migrations()]
+    parts += [dealings(), nodes(), versions(), file_faults(), migrations()]
     parts += [lacking_runs(), lacking_sessions(), lacking_ends(), stops()]
     return [scenario for part in parts for scenario in part]
 

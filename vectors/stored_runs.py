@@ -202,6 +202,16 @@ WRONG_WORDS = [
     "status z.prover and.txt 1",
     "status z.prover and.txt --section 1",
     "status -z.prover",
+    "status z.verifier --node",
+    "status z.verifier --node 1024",
+    "status z.verifier --node x",
+    "status z.verifier --node 3 --node 3",
+    "eval and.txt 11 --node 3",
+    "node",
+    "node z.verifier",
+    "node z.verifier 1024",
+    "node z.verifier 3 3",
+    "node z.verifier 3 --node 3",
 ]
 
 
@@ -316,6 +326,27 @@ def statuses() -> List[Run]:
         (f"{ALONE} short_text.txt", ["refused ShortText 1 2"], 3),
     ]
     return [Run(f"status {words}", lines, status) for words, lines, status in given]
+
+
+def nodes() -> List[Run]:
+    """New nodes of a verifier's file, and what they have used: nothing yet."""
+    direct, unused = [f"id {FILE_ID}", "units 1 direct"], ["used 0 left 1"]
+    given: List[Tuple[str, List[str], int]] = [
+        ("status z.verifier --node 3", ["journal failed 1"], 5),
+        ("node z.verifier 3", ["node 3"], 0),
+        ("node z.verifier 01023", ["node 1023"], 0),
+        ("status z.verifier --node 3", direct + unused, 0),
+        ("status z.verifier --node=0003 and.txt", direct + unused + ["sessions at most 1"], 0),
+        ("status z.verifier adder64.txt --node 1023", direct + unused + ["sessions at most 0"], 0),
+        ("status z.verifier --node 4", ["journal failed 1"], 5),
+        ("status z.prover --node 3", ["refused BadKind 2"], 3),
+        ("status z.verifier short_text.txt --node 3", ["refused ShortText 1 2"], 3),
+        ("node z.verifier 3", ["node 3"], 0),
+        ("node z.prover 3", ["refused BadKind 2"], 3),
+        ("node and.txt 3", ["refused BadMagic 1"], 3),
+        ("node missing 3", ["failed shelf"], 4),
+    ]
+    return [Run(words, lines, status) for words, lines, status in given]
 
 
 def bits_in_files() -> List[Run]:
@@ -777,7 +808,7 @@ def all_runs() -> List[Run]:
         runs += [eval_run(case.file, case.bits, case.outputs, 0), rehearse_run(case)]
     runs += [eval_run(case.file, case.bits, case.outputs, 0) for case in aes]
     runs += [rehearse_run(aes[1])] + refusals() + orders() + sections() + extensions() + public_bits() + dealings()
-    return runs + services() + proofs() + audits() + migrations() + statuses() + bits_in_files() + other_forms() + too_large() + arithmetic_runs() + arith_parties()
+    return runs + services() + proofs() + audits() + migrations() + statuses() + nodes() + bits_in_files() + other_forms() + too_large() + arithmetic_runs() + arith_parties()
 
 
 def alone() -> bytes:

@@ -1,15 +1,15 @@
 -- Commands as what they ask for.
-use Rattle.std.specs.Prelude.{ℕ, ◌≤◌, Bool, String, Vec, string_bytes}
+use Rattle.std.specs.Prelude.{ℕ, ◌<◌, ◌≤◌, IfSome, Bool, String, Vec, string_bytes}
 use Rattle.std.specs.Option.{option_map}
 use Rattle.std.specs.declared.alloc.Global.{Global}
 use Rattle.zk_model.specs.Files.{AreParams}
-use Rattle.command_words.specs.Words.{Ask, AuditArithAsk, AuditAsk, DealAsk, EvalAsk, MigrateAsk, ProveArithAsk, ProveAsk, RehearseArithAsk, RehearseAsk, ServeArithAsk, ServeAsk, ServeManyAsk, ServeOptions, StatusAsk}
-use Rattle.command_words.specs.Words.{audit_arith_ask, audit_ask, deal_ask, eval_ask, migrate_ask, prove_arith_ask, prove_ask, rehearse_arith_ask, rehearse_ask, serve_arith_ask, serve_ask, serve_many_ask, serve_options, status_ask}
+use Rattle.command_words.specs.Words.{Ask, AuditArithAsk, AuditAsk, DealAsk, EvalAsk, MigrateAsk, NodeAsk, ProveArithAsk, ProveAsk, RehearseArithAsk, RehearseAsk, ServeArithAsk, ServeAsk, ServeManyAsk, ServeOptions, StatusAsk}
+use Rattle.command_words.specs.Words.{audit_arith_ask, audit_ask, deal_ask, eval_ask, migrate_ask, node_ask, prove_arith_ask, prove_ask, rehearse_arith_ask, rehearse_ask, serve_arith_ask, serve_ask, serve_many_ask, serve_options, status_ask}
 use Rattle.command_words.specs.BitWords.{Bits, BitsAsk, said, named}
 use Rattle.command_words.specs.declared.bits.BitsWord.{BitsWord}
 use Rattle.command_words.specs.declared.bits.BitsWord.TheVariants.{Said, Named}
 use Rattle.command_words.specs.declared.asks.Ask.{Ask as AskOf}
-use Rattle.command_words.specs.declared.asks.Ask.TheVariants.{Rehearse, Generate, RehearseArith, Eval, Deal, Serve, ServeMany, ServeArith, Prove, ProveArith, Audit, AuditArith, Migrate, Status}
+use Rattle.command_words.specs.declared.asks.Ask.TheVariants.{Rehearse, Generate, RehearseArith, Eval, Deal, Serve, ServeMany, ServeArith, Prove, ProveArith, Audit, AuditArith, Migrate, Status, Node}
 use Rattle.command_words.specs.declared.asks.RehearseAsk.{RehearseAsk as RehearseAskOf}
 use Rattle.command_words.specs.declared.asks.RehearseArithAsk.{RehearseArithAsk as RehearseArithAskOf}
 use Rattle.command_words.specs.declared.asks.EvalAsk.{EvalAsk as EvalAskOf}
@@ -24,8 +24,9 @@ use Rattle.command_words.specs.declared.asks.AuditAsk.{AuditAsk as AuditAskOf}
 use Rattle.command_words.specs.declared.asks.AuditArithAsk.{AuditArithAsk as AuditArithAskOf}
 use Rattle.command_words.specs.declared.asks.MigrateAsk.{MigrateAsk as MigrateAskOf}
 use Rattle.command_words.specs.declared.asks.StatusAsk.{StatusAsk as StatusAskOf}
+use Rattle.command_words.specs.declared.asks.NodeAsk.{NodeAsk as NodeAskOf}
 use Rattle.command_words.specs.declared.asks.TheConstants.{MAX_SESSIONS, MAX_TIMEOUT}
-use Rattle.zk_model.specs.declared.limits.TheConstants.{MAX_GENERATED_GATES, MAX_PASSES, MAX_SECTION_LENGTH}
+use Rattle.zk_model.specs.declared.limits.TheConstants.{MAX_GENERATED_GATES, MAX_NODES, MAX_PASSES, MAX_SECTION_LENGTH}
 
 -- a command as code has it
 abbrev pub Command : Type 0 → Type 0
@@ -99,7 +100,10 @@ abbrev pub migrate_of : MigrateAskOf (String Global) → MigrateAsk
 migrate_of ask = migrate_ask ask.side (string_bytes ask.file)
 
 abbrev pub status_of : StatusAskOf (String Global) → StatusAsk
-status_of ask = status_ask (string_bytes ask.file) (option_map (λ name. string_bytes name) ask.circuit)
+status_of ask = status_ask (string_bytes ask.file) (option_map (λ name. string_bytes name) ask.circuit) ask.node
+
+abbrev pub node_of : NodeAskOf (String Global) → NodeAsk
+node_of ask = node_ask (string_bytes ask.file) ask.node
 
 abbrev pub ask_of : {B C : Type 0} → (B → C) → Command B → Ask C
 ask_of given (Rehearse ask) = Rehearse (rehearse_of given ask)
@@ -116,6 +120,7 @@ ask_of given (Audit ask) = Audit (audit_of given ask)
 ask_of given (AuditArith ask) = AuditArith (audit_arith_of ask)
 ask_of given (Migrate ask) = Migrate (migrate_of ask)
 ask_of given (Status ask) = Status (status_of ask)
+ask_of given (Node ask) = Node (node_of ask)
 
 -- a section has so many products
 pub record IsSectionSize (section : ℕ) : Type 0 where
@@ -147,4 +152,6 @@ IsWithinLimits (ServeMany ask) = AreServeLimits (named_options ask.options)
 IsWithinLimits (ServeArith ask) = AreServeLimits (named_options ask.options)
 IsWithinLimits (Prove ask) = IsTimeout ask.timeout
 IsWithinLimits (ProveArith ask) = IsTimeout ask.timeout
+IsWithinLimits (Status ask) = IfSome ask.node (λ node. node < MAX_NODES)
+IsWithinLimits (Node ask) = ask.node < MAX_NODES
 IsWithinLimits other = Unit {0}

@@ -31,6 +31,7 @@ use Rattle.command_words.specs.declared.asks.AuditAsk.{AuditAsk as AuditAskOf}
 use Rattle.command_words.specs.declared.asks.AuditArithAsk.{AuditArithAsk as AuditArithAskOf}
 use Rattle.command_words.specs.declared.asks.MigrateAsk.{MigrateAsk as MigrateAskOf}
 use Rattle.command_words.specs.declared.asks.StatusAsk.{StatusAsk as StatusAskOf}
+use Rattle.command_words.specs.declared.asks.NodeAsk.{NodeAsk as NodeAskOf}
 use Rattle.command_words.specs.declared.table.Name.{Name}
 use Rattle.command_words.specs.declared.table.Name.TheVariants as n
 
@@ -137,8 +138,14 @@ migrate_ask side file = record { side = side; file = file }
 abbrev pub StatusAsk : Type 0
 StatusAsk = StatusAskOf (List ℕ)
 
-abbrev pub status_ask : List ℕ → Option (List ℕ) → StatusAsk
-status_ask file circuit = record { file = file; circuit = circuit }
+abbrev pub status_ask : List ℕ → Option (List ℕ) → Option ℕ → StatusAsk
+status_ask file circuit node = record { file = file; circuit = circuit; node = node }
+
+abbrev pub NodeAsk : Type 0
+NodeAsk = NodeAskOf (List ℕ)
+
+abbrev pub node_ask : List ℕ → ℕ → NodeAsk
+node_ask file node = record { file = file; node = node }
 
 -- ---- what each command asks for, by what is read of its row
 
@@ -227,9 +234,13 @@ audit_arith_by circuit outputs prover verifier log =
 abbrev pub migrate_by : FromRow (row_of n.Migrate) (Option (Ask BitsAsk))
 migrate_by side file = Some (a.Migrate (migrate_ask side file))
 
--- `status FILE [CIRCUIT]`
+-- `status FILE [CIRCUIT] [--node K]`
 abbrev pub status_by : FromRow (row_of n.Status) (Option (Ask BitsAsk))
-status_by file circuit = Some (a.Status (status_ask file circuit))
+status_by file circuit node = Some (a.Status (status_ask file circuit node))
+
+-- `node FILE K`
+abbrev pub node_by : FromRow (row_of n.Node) (Option (Ask BitsAsk))
+node_by file node = Some (a.Node (node_ask file node))
 
 abbrev pub asks_by : (name : Name) → FromRow (row_of name) (Option (Ask BitsAsk))
 asks_by n.Rehearse = rehearse_by
@@ -245,6 +256,7 @@ asks_by n.Audit = audit_by
 asks_by n.AuditArith = audit_arith_by
 asks_by n.Migrate = migrate_by
 asks_by n.Status = status_by
+asks_by n.Node = node_by
 
 -- ---- what words ask for
 

@@ -150,11 +150,19 @@ pub struct MigrateAsk<T> {
     pub file: T,
 }
 
-/// A status: a dealt file, and a circuit's file, where one is named.
+/// A status: a dealt file, a circuit's file, where one is named, and the number of a node, where one is: then it is of what that node used.
 #[derive(Debug, Drop)]
 pub struct StatusAsk<T> {
     pub file: T,
     pub circuit: Option<T>,
+    pub node: Option<u32>,
+}
+
+/// A new node of a verifier's file, and its number.
+#[derive(Debug, Drop)]
+pub struct NodeAsk<T> {
+    pub file: T,
+    pub node: u32,
 }
 
 /// What can be asked for.
@@ -174,6 +182,7 @@ pub enum Ask<T, B> {
     AuditArith(AuditArithAsk<T>),
     Migrate(MigrateAsk<T>),
     Status(StatusAsk<T>),
+    Node(NodeAsk<T>),
 }
 
 /// A command, where bits are given as `B`.

@@ -39,8 +39,10 @@ usage:
       the same of a session about an arithmetic circuit
   zk migrate SIDE FILE
       brings the journal of a dealt file that an earlier version made to the form of this one
-  zk status FILE [CIRCUIT]
+  zk status FILE [CIRCUIT] [--node K]
       says how many units of a dealt file are left, and how many sessions they are enough for
+  zk node FILE K
+      makes node K of a verifier's file: a journal of the units that it claims
   zk COMMAND --help
       says more about a command
   zk --version
@@ -243,17 +245,32 @@ statuses: 0 migrated, now or before, 3 the file or the journal is refused, 4 a f
 ";
 
 pub const STATUS: &str = "\
-usage: zk status FILE [CIRCUIT]
+usage: zk status FILE [CIRCUIT] [--node K]
 
 Says how many units of the dealt file FILE are left, by its journal FILE.journal, in lines: `id HEX`, the same for
 both files of a dealing; `units N direct`, or `units N extended T H K`; `used U left L`; and, with the circuit in
 the file CIRCUIT, `sessions N`: for how many sessions of it these are enough, or `sessions at most N` where FILE is
 a prover's. Nothing is written. A service that runs has the journal, and the status is then 5.
 
+  --node K         by the journal FILE.node.K of node K of a verifier's file, 0 to 1023: `used U` are the units that it
+                   claimed, and `left L` all others, of which no more are free; `sessions at most N`
+
 example: zk status x.verifier adder64.txt
 
 statuses: 0 done, 3 a file or the journal is refused, 4 a file or the output failed, 5 the journal failed, 7 memory
   was missing
+";
+
+pub const NODE: &str = "\
+usage: zk node FILE K
+
+Makes node K, 0 to 1023, of the verifier's file FILE: stores FILE.node.K, the blank journal of the units that it claims, in
+place of one that is there, and says `node K`. A node number has one journal for ever: one that is made anew, of a node that
+claimed units, lets it claim them again.
+
+example: zk node /tmp/demo.verifier 3
+
+statuses: 0 stored, 3 the file is refused, 4 a file or the output failed, 7 memory was missing
 ";
 
 const VERSION: &str = "zk 1.0\n";

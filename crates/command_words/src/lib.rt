@@ -22,8 +22,8 @@ mod words;
 
 pub use asks::{
     Ask, AuditArithAsk, AuditAsk, Command, DealAsk, EvalAsk, GenerateAsk, MAX_SESSIONS, MigrateAsk,
-    ProveArithAsk, ProveAsk, RehearseArithAsk, RehearseAsk, ServeArithAsk, ServeAsk, ServeManyAsk,
-    ServeOptions, StatusAsk,
+    NodeAsk, ProveArithAsk, ProveAsk, RehearseArithAsk, RehearseAsk, ServeArithAsk, ServeAsk,
+    ServeManyAsk, ServeOptions, StatusAsk,
 };
 pub use bits::{BitsWord, read_bits, read_bits_word, write_bits};
 pub use help::help_text;

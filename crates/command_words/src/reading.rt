@@ -17,16 +17,16 @@ ghost use Rattle.zk_model.specs.declared.Side.TheVariants.{Prover, Verifier};
 ghost use Rattle.zk_model.specs.declared.limits.TheConstants.{FILE_LIMIT};
 
 use crate::asks::{
-    Ask, AuditArithAsk, AuditAsk, DealAsk, EvalAsk, GenerateAsk, MigrateAsk, ProveArithAsk,
-    ProveAsk, RehearseArithAsk, RehearseAsk, SaidCommand, ServeArithAsk, ServeAsk, ServeManyAsk,
-    ServeOptions, StatusAsk,
+    Ask, AuditArithAsk, AuditAsk, DealAsk, EvalAsk, GenerateAsk, MigrateAsk, NodeAsk,
+    ProveArithAsk, ProveAsk, RehearseArithAsk, RehearseAsk, SaidCommand, ServeArithAsk, ServeAsk,
+    ServeManyAsk, ServeOptions, StatusAsk,
 };
 use crate::bits::{BitsWord, read_bits_word};
 use crate::found::{At, Found};
 use crate::numbers::read_number;
 use crate::table::{
-    BASE, EXTENDED, FOLLOW, GATES, HEIGHT, LOGS, NUMBER, PUBLIC, SECTION, SESSIONS, SOME_PUBLIC,
-    TIMEOUT, TREES, TableColumn, UNITS, WORKERS, WordKind,
+    BASE, EXTENDED, FOLLOW, GATES, HEIGHT, K, LOGS, NODE, NUMBER, PUBLIC, SECTION, SESSIONS,
+    SOME_PUBLIC, TIMEOUT, TREES, TableColumn, UNITS, WORKERS, WordKind,
 };
 use dealer_files::file_length;
 use std::alloc::{AllocError, Global};
@@ -96,6 +96,19 @@ impl Found<'_> {
         match self.word(at) {
             Some("prover") => Ok(Side::Prover),
             Some("verifier") => Ok(Side::Verifier),
+            _ => Err(Unread::Invalid),
+        }
+    }
+
+    /// The number that a word of this kind says.
+    fn placed_number(&self, at: At<TableColumn>, kind: WordKind) -> Result<u64, Unread>
+        ensures value { IsReadTo (λ n. n) (option_and_then (number_of kind) (word_in at.entry self.now)) result }
+        ensures limits { IfOk result (IsOfKind kind) }
+    {
+        match (kind, self.word(at)) {
+            (WordKind::Number(low, high), Some(word)) => {
+                read_number(word, low, high).ok_or(Unread::Invalid)
+            }
             _ => Err(Unread::Invalid),
         }
     }
@@ -416,5 +429,17 @@ pub fn status(alloc: Global, found: &Found) -> Result<SaidCommand, Unread>
     Ok(Ask::Status(StatusAsk {
         file: found.text(alloc, At::Place(0))?,
         circuit: found.some_text(alloc, At::Place(1))?,
+        node: found.some_number(NODE)?.map(|node| node as u32),
+    }))
+}
+
+/// A new node of a verifier's file.
+pub fn node(alloc: Global, found: &Found) -> Result<SaidCommand, Unread>
+    ensures asked { IsReadTo (ask_of bits_ask) (asked_in name.Node found.now) result }
+    ensures limits { IfOk result IsWithinLimits }
+{
+    Ok(Ask::Node(NodeAsk {
+        file: found.text(alloc, At::Place(0))?,
+        node: found.placed_number(At::Place(1), K.1)? as u32,
     }))
 }

@@ -7,8 +7,8 @@ use crate::help;
 use Need::{Always, Default, Optional};
 use WordKind::{Bits, Number, Side, Text};
 use zk_model::{
-    MAX_BASE, MAX_DEALT_UNITS, MAX_GENERATED_GATES, MAX_HEIGHT, MAX_PASSES, MAX_SECTION_LENGTH,
-    MAX_TREES,
+    MAX_BASE, MAX_DEALT_UNITS, MAX_GENERATED_GATES, MAX_HEIGHT, MAX_NODES, MAX_PASSES,
+    MAX_SECTION_LENGTH, MAX_TREES,
 };
 
 /// How a word is read: as it stands, as bits or the name of a file of them, as a side, or as a number between these two.
@@ -56,6 +56,8 @@ pub const CIRCUIT: TableColumn = Column("CIRCUIT", Text, Always);
 
 pub const FILE: TableColumn = Column("FILE", Text, Always);
 
+pub const K: TableColumn = Column("K", Number(0, (MAX_NODES - 1) as u64), Always);
+
 pub const LOG: TableColumn = Column("LOG", Text, Always);
 
 pub const NAME: TableColumn = Column("NAME", Text, Always);
@@ -85,6 +87,8 @@ pub const GATES: TableColumn = Column("gates", Number(1, MAX_GENERATED_GATES as 
 pub const HEIGHT: TableColumn = Column("height", Number(1, MAX_HEIGHT as u64), Optional);
 
 pub const LOGS: TableColumn = Column("logs", Text, Optional);
+
+pub const NODE: TableColumn = Column("node", Number(0, (MAX_NODES - 1) as u64), Optional);
 
 pub const NUMBER: TableColumn = Column("number", Number(0, u64::MAX), Optional);
 
@@ -211,9 +215,17 @@ pub const MIGRATE: TableRow = Row {
 pub const STATUS: TableRow = Row {
     name: "status",
     places: &[FILE, SOME_CIRCUIT],
-    options: &[],
+    options: &[NODE],
     flags: &[],
     help: help::STATUS,
+};
+
+pub const NEW_NODE: TableRow = Row {
+    name: "node",
+    places: &[FILE, K],
+    options: &[],
+    flags: &[],
+    help: help::NODE,
 };
 
 /// A command's name.
@@ -232,6 +244,7 @@ pub enum Name {
     AuditArith,
     Migrate,
     Status,
+    Node,
 }
 
 /// Each of them.
@@ -249,6 +262,7 @@ pub const NAMES: &[Name] = &[
     Name::AuditArith,
     Name::Migrate,
     Name::Status,
+    Name::Node,
 ];
 
 impl Name {
@@ -278,6 +292,7 @@ impl Name {
             Name::AuditArith => AUDIT_ARITH,
             Name::Migrate => MIGRATE,
             Name::Status => STATUS,
+            Name::Node => NEW_NODE,
         }
     }
 }

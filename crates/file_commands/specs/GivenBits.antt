@@ -5,7 +5,7 @@ use Rattle.zk_model.specs.Circuit.{Circuit}
 use Rattle.zk_port.specs.Files.{Files}
 use Rattle.command_words.specs.BitWords.{Bits, BitsAsk, said, named, bits_word}
 use Rattle.command_words.specs.Words.{Ask, rehearse_ask, eval_ask, serve_ask, prove_ask, audit_ask}
-use Rattle.command_words.specs.declared.asks.Ask.TheVariants.{Rehearse as rehearse, Generate as generate, RehearseArith as rehearse_arith, Eval as eval, Deal as deal, Serve as serve, ServeMany as serve_many, ServeArith as serve_arith, Prove as prove, ProveArith as prove_arith, Audit as audit, AuditArith as audit_arith, Migrate as migrate, Status as status}
+use Rattle.command_words.specs.declared.asks.Ask.TheVariants.{Rehearse as rehearse, Generate as generate, RehearseArith as rehearse_arith, Eval as eval, Deal as deal, Serve as serve, ServeMany as serve_many, ServeArith as serve_arith, Prove as prove, ProveArith as prove_arith, Audit as audit, AuditArith as audit_arith, Migrate as migrate, Status as status, Node as node}
 use Rattle.file_commands.specs.Effects.{ShelfChange}
 use Rattle.file_commands.specs.Stops.{HasText, HasCircuit, LoadStop, CircuitStop}
 use Rattle.file_commands.specs.declared.refusal.Refusal.{Refusal}
@@ -59,6 +59,7 @@ IsAskGiven told (audit ask) given =
 IsAskGiven told (audit_arith ask) given = given ≡ audit_arith ask
 IsAskGiven told (migrate ask) given = given ≡ migrate ask
 IsAskGiven told (status ask) given = given ≡ status ask
+IsAskGiven told (node ask) given = given ≡ node ask
 
 -- ---- why words give no bits
 

@@ -1,5 +1,6 @@
 -- What becomes of a journal over a run that opens it.
 use Rattle.std.specs.Prelude.{◌≡◌, ◌≢◌, ◌⊎◌, ◌+◌, ◌≤◌, ◌++◌, ◌∷◌, [], ℕ, List, codes, Option, Some, IfSome, IsSomeAnd}
+use Rattle.std.specs.Fmt.{decimal}
 use Rattle.journal_migration.specs.Migrations.{moved_slots, one_area_end}
 use Rattle.lease_journal.specs.Twins.{HoldsTwin, twin_length}
 use Rattle.zk_model.specs.declared.JournalKind.{JournalKind}
@@ -42,6 +43,10 @@ pub record IsJournalDisk (disk : DiskState) : Type 0 where
 -- the name of a dealt file's journal
 abbrev pub journal_name : List ℕ → List ℕ
 journal_name file = file ++ codes ".journal"
+
+-- the name of the journal of claims of a node that holds the file
+abbrev pub node_journal_name : List ℕ → ℕ → List ℕ
+node_journal_name file node = file ++ codes ".node." ++ decimal node
 
 -- it is taken by this run alone, or for reads beside others
 abbrev pub own_journal : List ℕ → Choice

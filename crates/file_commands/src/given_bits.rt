@@ -282,5 +282,6 @@ pub fn read_given<F: Shelf>(
         Ask::AuditArith(ask) => Ok(Ask::AuditArith(ask)),
         Ask::Migrate(ask) => Ok(Ask::Migrate(ask)),
         Ask::Status(ask) => Ok(Ask::Status(ask)),
+        Ask::Node(ask) => Ok(Ask::Node(ask)),
     }
 }

@@ -8,7 +8,7 @@ ghost use Rattle.lease_store.specs.Ceilings.{HasCeilingHeader, SaysCeiling};
 ghost use Rattle.lease_store.specs.Desks.{Begins};
 ghost use Rattle.lease_store.specs.Leases.{IsPassAt};
 ghost use Rattle.session_pool.specs.Notes.{IsUnused};
-ghost use Rattle.file_commands.specs.Journals.{IsJournalDisk, JournalStop, OpensJournal, OnlyReads, disk_change, journal_name, start_refusal};
+ghost use Rattle.file_commands.specs.Journals.{IsJournalDisk, JournalStop, OpensJournal, OnlyReads, disk_change, journal_name, node_journal_name, start_refusal};
 ghost use Rattle.file_commands.specs.Journals.{IsClaimsFault};
 ghost use Rattle.file_commands.specs.Journals.{IsCeilingsFault};
 ghost use Rattle.zk_port.specs.Counts.{Rose};
@@ -32,6 +32,29 @@ fn name_of(alloc: Global, file: &str) -> Result<String, AllocError>
     Ok(format!(in alloc; "{file}.journal")?)
 }
 
+/// The name of the journal of claims of the node of this number, which holds the verifier's file of this name.
+pub fn node_journal_name(alloc: Global, file: &str, node: u32) -> Result<String, AllocError>
+    ensures { IfOk result (λ name. string_bytes name ≡ node_journal_name file.now node) }
+{
+    Ok(format!(in alloc; "{file}.node.{node}")?)
+}
+
+/// Takes the journal of this name from now on.
+fn choose_named<B: Disk>(journal: &mut B, name: &str, access: Access) -> Result<(), Refusal>
+    ensures opens { OnOk result (OpensJournal (name.now, access)
+        (disk_change (B.state journal.old) (B.state journal.new))) }
+    ensures reads { OnErr result (OnlyReads (name.now, access)
+        (disk_change (B.state journal.old) (B.state journal.new))) }
+    ensures stop { IfErr result (λ stop. (stop ≡ stops.JournalFailed (B.state journal.new).faults)
+        × Rose (B.state journal.old).faults (B.state journal.new).faults) }
+{
+    if journal.choose(name, access).is_err() {
+        let count = journal.faults();
+        return Err(Refusal::JournalFailed { count });
+    }
+    Ok(())
+}
+
 /// Takes the journal of the file of this name from now on.
 pub fn choose_journal<B: Disk>(
     alloc: Global,
@@ -50,11 +73,7 @@ pub fn choose_journal<B: Disk>(
     let Ok(name) = name_of(alloc, name) else {
         return Err(Refusal::NoMemory);
     };
-    if journal.choose(&name, access).is_err() {
-        let count = journal.faults();
-        return Err(Refusal::JournalFailed { count });
-    }
-    Ok(())
+    choose_named(journal, &name, access)
 }
 
 /// Why a journal is not opened on a disk whose calls have failed so often.
@@ -115,10 +134,55 @@ pub fn open_ceilings<B: Disk>(
     }
 }
 
+/// Opens the journal of claims of this name, id and total; or says why not, and gives the disk back.
+fn open_named<B: Disk>(
+    alloc: Global,
+    mut journal: B,
+    name: &str,
+    access: Access,
+    id: &[u8; 32],
+    total: u64,
+) -> Result<ClaimStore<B>, (Refusal, B)>
+    requires disk { IsJournalDisk (B.state journal) }
+    ensures opens { IfOk result (λ store. OpensJournal (name.now, access)
+        (disk_change (B.state journal) (B.state store.disk))) }
+    ensures since { IfOk result (λ _. (image : List ℕ)
+        → (B.state journal).images_since (B.state journal).moment image → (B.state journal).images image) }
+    ensures holds { IfOk result (λ store. (bytes : List ℕ) → (B.state journal).content ≡ Some bytes
+        → HoldsTwin Claims id.now total store.begin store.slots bytes) }
+    ensures says { IfOk result (λ store. (bytes : List ℕ) → (B.state journal).content ≡ Some bytes
+        → SaysClaims total store.begin store.slots store.claims bytes) }
+    ensures in_use { IfOk result (λ store. (bytes : List ℕ) → (B.state journal).content ≡ Some bytes
+        → AreInUse store.begin store.slots store.used bytes) }
+    ensures durable { IfOk result (λ store. AreDurable B.state store) }
+    ensures only { IfOk result (λ store. Only (B.state store.disk).content (B.state store.disk).images) }
+    ensures sound { IfOk result (λ store. AreClaims total store.claims) }
+    ensures rising { IfOk result (λ store. RiseFrom 0 store.claims) }
+    ensures total { IfOk result (λ store. store.total ≡ total) }
+    ensures whole { IfOk result (λ store. store.fault ≡ 0) }
+    ensures reads { IfErr result (λ e. OnlyReads (name.now, access)
+        (disk_change (B.state journal) (B.state e.1))) }
+    ensures stop { IfErr result (λ e. JournalStop
+        (IsClaimsFault id.now total (B.state journal))
+        (disk_change (B.state journal) (B.state e.1)) e.0) }
+{
+    if let Err(refusal) = choose_named(&mut journal, name, access) {
+        return Err((refusal, journal));
+    }
+    match ClaimStore::start(alloc, journal, id, total) {
+        Ok(store) => Ok(store),
+        Err((claim_store::StoreFault::NoMemory, disk)) => Err((Refusal::NoMemory, disk)),
+        Err((claim_store::StoreFault::Journal(fault), disk)) => {
+            let count = disk.faults();
+            Err((start_stop(fault, count), disk))
+        }
+    }
+}
+
 /// Opens the journal of claims that belongs to the prover's file of this name; or says why not, and gives the disk back.
 pub fn open_claims<B: Disk>(
     alloc: Global,
-    mut journal: B,
+    journal: B,
     name: &str,
     access: Access,
     file: &ProverFile,
@@ -147,15 +211,48 @@ pub fn open_claims<B: Disk>(
         (IsClaimsFault file.now.id file.now.params.total (B.state journal))
         (disk_change (B.state journal) (B.state e.1)) e.0) }
 {
-    if let Err(refusal) = choose_journal(alloc, &mut journal, name, access) {
-        return Err((refusal, journal));
-    }
-    match ClaimStore::start(alloc, journal, &file.id(), file.total()) {
-        Ok(store) => Ok(store),
-        Err((claim_store::StoreFault::NoMemory, disk)) => Err((Refusal::NoMemory, disk)),
-        Err((claim_store::StoreFault::Journal(fault), disk)) => {
-            let count = disk.faults();
-            Err((start_stop(fault, count), disk))
-        }
-    }
+    let Ok(name) = name_of(alloc, name) else {
+        return Err((Refusal::NoMemory, journal));
+    };
+    open_named(alloc, journal, &name, access, &file.id(), file.total())
+}
+
+/// Opens the journal of claims of the node of this number, which holds the verifier's file of this name; or says why not, and gives the disk
+/// back.
+pub fn open_node_claims<B: Disk>(
+    alloc: Global,
+    journal: B,
+    name: &str,
+    node: u32,
+    access: Access,
+    file: &VerifierFile,
+) -> Result<ClaimStore<B>, (Refusal, B)>
+    requires disk { IsJournalDisk (B.state journal) }
+    ensures opens { IfOk result (λ store. OpensJournal (node_journal_name name.now node, access)
+        (disk_change (B.state journal) (B.state store.disk))) }
+    ensures since { IfOk result (λ _. (image : List ℕ)
+        → (B.state journal).images_since (B.state journal).moment image → (B.state journal).images image) }
+    ensures holds { IfOk result (λ store. (bytes : List ℕ) → (B.state journal).content ≡ Some bytes
+        → HoldsTwin Claims file.now.id file.now.params.total store.begin store.slots bytes) }
+    ensures says { IfOk result (λ store. (bytes : List ℕ) → (B.state journal).content ≡ Some bytes
+        → SaysClaims file.now.params.total store.begin store.slots store.claims bytes) }
+    ensures in_use { IfOk result (λ store. (bytes : List ℕ) → (B.state journal).content ≡ Some bytes
+        → AreInUse store.begin store.slots store.used bytes) }
+    ensures durable { IfOk result (λ store. AreDurable B.state store) }
+    ensures only { IfOk result (λ store. Only (B.state store.disk).content (B.state store.disk).images) }
+    ensures sound { IfOk result (λ store. AreClaims file.now.params.total store.claims) }
+    ensures rising { IfOk result (λ store. RiseFrom 0 store.claims) }
+    ensures total { IfOk result (λ store. store.total ≡ file.now.params.total) }
+    ensures small { IfOk result (λ store. store.total < 2 ^ 64 - 1) }
+    ensures whole { IfOk result (λ store. store.fault ≡ 0) }
+    ensures reads { IfErr result (λ e. OnlyReads (node_journal_name name.now node, access)
+        (disk_change (B.state journal) (B.state e.1))) }
+    ensures stop { IfErr result (λ e. JournalStop
+        (IsClaimsFault file.now.id file.now.params.total (B.state journal))
+        (disk_change (B.state journal) (B.state e.1)) e.0) }
+{
+    let Ok(name) = node_journal_name(alloc, name, node) else {
+        return Err((Refusal::NoMemory, journal));
+    };
+    open_named(alloc, journal, &name, access, &file.id(), file.total())
 }

@@ -23,7 +23,7 @@ pub use deal_command::run_deal;
 pub use dealt_file::{load_prover, load_verifier};
 pub use eval_command::run_eval;
 pub use given_bits::read_given;
-pub use journal_file::{open_ceilings, open_claims};
+pub use journal_file::{node_journal_name, open_ceilings, open_claims, open_node_claims};
 pub use laws::journals_stay_tidy;
 pub use migrate_command::run_migrate;
 pub use refusal::Refusal;

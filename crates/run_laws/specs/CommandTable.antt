@@ -49,4 +49,5 @@ TableIs =
     × HasWords (codes "audit-arith") (codes "CIRCUIT" ∷ codes "OUTPUTS" ∷ codes "PROVERFILE" ∷ codes "VERIFIERFILE" ∷ codes "LOG" ∷ [])
     [] []
     × HasWords (codes "migrate") (codes "SIDE" ∷ codes "FILE" ∷ []) [] []
-    × HasWords (codes "status") (codes "FILE" ∷ codes "CIRCUIT" ∷ []) [] []
+    × HasWords (codes "status") (codes "FILE" ∷ codes "CIRCUIT" ∷ []) ((codes "node", None) ∷ []) []
+    × HasWords (codes "node") (codes "FILE" ∷ codes "K" ∷ []) [] []

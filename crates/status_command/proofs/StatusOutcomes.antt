@@ -13,14 +13,14 @@ use Rattle.claim_store.specs.declared.fault.StoreFault.TheVariants as store
 use Rattle.dealer_files.specs.Faults.{IsDealtFile, IsFirstFileFault}
 use Rattle.command_words.specs.Words.{StatusAsk}
 use Rattle.file_commands.specs.Effects.{ShelfChange, Effects, NameFailed, OnlyLoads, IsDone}
-use Rattle.file_commands.specs.Journals.{DiskChange, IsCeilingsFault, IsClaimsFault, JournalStop, OnlyReads, read_journal}
+use Rattle.file_commands.specs.Journals.{DiskChange, IsCeilingsFault, IsClaimsFault, JournalStop, OnlyReads}
 use Rattle.file_commands.specs.Stops.{CircuitStop, FileStop, HasText, LoadStop, stop_line, stop_status}
 use Rattle.file_commands.specs.declared.refusal.Refusal.{Refusal}
 use Rattle.file_commands.specs.declared.refusal.Refusal.TheVariants as stop
 use Rattle.file_commands.proofs.Causes.{circuit_lacks, file_7, sound_7, told_text}
 use Rattle.file_commands.proofs.Journals.{opened_is_read}
 use Rattle.file_commands.proofs.Means.{any_answers, file_status, zero_answers}
-use Rattle.status_command.specs.StatusRuns.{DealtStop, HasAskedCircuit, HasJournalBy, HasReportFailed, IsJournalFaultBy, IsReportable, IsStatusName, LacksCircuit, ReportMeans, Reports, StatusLines, StatusStop, side_in}
+use Rattle.status_command.specs.StatusRuns.{DealtStop, HasAskedCircuit, HasJournalBy, HasReportFailed, IsJournalFaultBy, IsReportable, IsStatusName, LacksCircuit, ReportMeans, Reports, StatusLines, StatusStop, journal_side, side_of, status_journal}
 use Rattle.status_command.specs.declared.dealing.Dealing.{Dealing}
 use Rattle.status_command.proofs.Reporting.{untouched_is_read}
 
@@ -46,9 +46,10 @@ of_load name shelf (stop.TooLong limit) cause = inl refl
 of_load name shelf stop.NoMemory cause = inr (inr (inr refl))
 of_load name shelf other cause = absurd cause
 
-of_dealt : (name : List ℕ) (shelf : ShelfChange) (why : Refusal) → DealtStop name shelf why → IsStopStatus (stop_status why)
-of_dealt name shelf (stop.BadFile fault) cause = elim (file_status fault) [ inl e ↦ inl e | inr e ↦ inr (inr (inr e)) ]
-of_dealt name shelf other cause = of_load name shelf other cause
+of_dealt : (name : List ℕ) (number : Option ℕ) (shelf : ShelfChange) (why : Refusal) → DealtStop name number shelf why
+    → IsStopStatus (stop_status why)
+of_dealt name number shelf (stop.BadFile fault) cause = elim (file_status fault) [ inl e ↦ inl e | inr e ↦ inr (inr (inr e)) ]
+of_dealt name number shelf other cause = of_load name shelf other cause
 
 of_circuit : (name : List ℕ) (shelf : ShelfChange) (why : Refusal) → CircuitStop name shelf why → IsStopStatus (stop_status why)
 of_circuit name shelf (stop.BadText fault) cause = inl refl
@@ -67,9 +68,9 @@ of_journal Cause disk stop.NoMemory cause = inr (inr (inr refl))
 of_journal Cause disk other cause = absurd cause
 
 of_stop : (ask : StatusAsk) (shelf : ShelfChange) (disk : DiskChange) (why : Refusal) → StatusStop ask shelf disk why → IsStopStatus (stop_status why)
-of_stop ask shelf disk why (inl (inl lacks, stays)) = of_dealt ask.file shelf why lacks
+of_stop ask shelf disk why (inl (inl lacks, stays)) = of_dealt ask.file ask.node shelf why lacks
 of_stop ask shelf disk why (inl (inr lacks, stays)) = of_asked ask.circuit shelf why lacks.2
-of_stop ask shelf disk why (inr lacks) = of_journal (IsJournalFaultBy lacks.dealing.side lacks.dealing disk.old) disk why lacks.cause
+of_stop ask shelf disk why (inr lacks) = of_journal (IsJournalFaultBy (journal_side ask.node lacks.dealing.side) lacks.dealing disk.old) disk why lacks.cause
 
 statuses : (ask : StatusAsk) (disk : DiskChange) (run : Effects) → ReportMeans ask disk run
     → (run.status ≡ 0) ⊎ (run.status ≡ 3) ⊎ (run.status ≡ 4) ⊎ (run.status ≡ 5) ⊎ (run.status ≡ 7)
@@ -85,34 +86,34 @@ statuses ask disk run (inr (inr (inr seven))) = inr (inr (inr (inr seven)))
 
 -- ---- the disk is read alone
 
-reads : (ask : StatusAsk) (disk : DiskChange) (run : Effects) → StatusLines ask disk run → OnlyReads (read_journal ask.file) disk
-reads ask disk run (inl says) = opened_is_read (read_journal ask.file) disk says.1.opens
+reads : (ask : StatusAsk) (disk : DiskChange) (run : Effects) → StatusLines ask disk run → OnlyReads (status_journal ask.file ask.node) disk
+reads ask disk run (inl says) = opened_is_read (status_journal ask.file ask.node) disk says.1.opens
 reads ask disk run (inr says) = elim says.cause [
-  | inl lacks ↦ untouched_is_read (read_journal ask.file) disk lacks.1
+  | inl lacks ↦ untouched_is_read (status_journal ask.file ask.node) disk lacks.1
   | inr lacks ↦ lacks.reads
 ]
 
 -- ---- why a run stops: for want of memory alone
 
--- a stop is one of the side that the bytes say which stand there
-of_side : (name : List ℕ) (shelf : ShelfChange) → shelf.old.told ≢ None
-    → (dealt : HasText shelf.old.told name (λ bytes. IsDealtFile (side_in bytes) bytes)) → (why : Refusal) → DealtStop name shelf why
-    → FileStop (side_in dealt.text) name shelf why
-of_side name shelf tells dealt (stop.BadFile fault) cause =
+-- a stop is one of the side that is asked about of the bytes which stand there
+of_side : (name : List ℕ) (number : Option ℕ) (shelf : ShelfChange) → shelf.old.told ≢ None
+    → (dealt : HasText shelf.old.told name (λ bytes. IsDealtFile (side_of number bytes) bytes)) → (why : Refusal)
+    → DealtStop name number shelf why → FileStop (side_of number dealt.text) name shelf why
+of_side name number shelf tells dealt (stop.BadFile fault) cause =
     let same = told_text shelf.old.told name dealt.text cause.text tells dealt.loaded.stands cause.loaded.stands in
     record {
       text = cause.text;
       loaded = cause.loaded;
-      says = subst (λ (side : Side). IsFirstFileFault side cause.text fault) (ap side_in same) cause.says;
+      says = subst (λ (side : Side). IsFirstFileFault side cause.text fault) (ap (side_of number) same) cause.says;
     }
-of_side name shelf tells dealt other cause = cause
+of_side name number shelf tells dealt other cause = cause
 
-dealt_7 : (name : List ℕ) (shelf : ShelfChange) → shelf.old.told ≢ None
-    → HasText shelf.old.told name (λ bytes. IsDealtFile (side_in bytes) bytes) → ¬ NameFailed name shelf → (why : Refusal)
-    → DealtStop name shelf why → stop_status why ≡ 7
-dealt_7 name shelf tells dealt calm why cause =
-    file_7 (side_in dealt.text) name shelf tells (record { text = dealt.text; loaded = dealt.loaded; says = dealt.says }) calm why
-    (of_side name shelf tells dealt why cause)
+dealt_7 : (name : List ℕ) (number : Option ℕ) (shelf : ShelfChange) → shelf.old.told ≢ None
+    → HasText shelf.old.told name (λ bytes. IsDealtFile (side_of number bytes) bytes) → ¬ NameFailed name shelf → (why : Refusal)
+    → DealtStop name number shelf why → stop_status why ≡ 7
+dealt_7 name number shelf tells dealt calm why cause =
+    file_7 (side_of number dealt.text) name shelf tells (record { text = dealt.text; loaded = dealt.loaded; says = dealt.says }) calm why
+    (of_side name number shelf tells dealt why cause)
 
 asked_7 : OneCircuit → (asked : Option (List ℕ)) (shelf : ShelfChange) → shelf.old.told ≢ None → HasAskedCircuit shelf.old.told asked
     → ((name : List ℕ) → asked ≡ Some name → ¬ NameFailed name shelf) → (why : Refusal) → LacksCircuit asked shelf why → stop_status why ≡ 7
@@ -144,11 +145,11 @@ stop_7 : OneCircuit → ClaimsStartAgain → CeilingsStartAgain → (ask : Statu
     → IsReportable run.shelf.old.told disk.old ask → ¬ HasReportFailed ask disk run → (why : Refusal) → StatusStop ask run.shelf disk why
     → stop_status why ≡ 7
 stop_7 one claims ceilings ask disk run ready calm why (inl (inl lacks, stays)) =
-    dealt_7 ask.file run.shelf ready.tells ready.file (λ rose. calm (inl (inl (ask.file, inl refl, rose)))) why lacks
+    dealt_7 ask.file ask.node run.shelf ready.tells ready.file (λ rose. calm (inl (inl (ask.file, inl refl, rose)))) why lacks
 stop_7 one claims ceilings ask disk run ready calm why (inl (inr lacks, stays)) =
     asked_7 one ask.circuit run.shelf ready.tells ready.circuit (λ name is rose. calm (inl (inl (name, inr is, rose)))) why lacks.2
 stop_7 one claims ceilings ask disk run ready calm why (inr lacks) =
-    journal_7 claims ceilings lacks.dealing.side lacks.dealing disk (ready.journal lacks.dealing lacks.file) (λ rose. calm (inr rose)) why
+    journal_7 claims ceilings (journal_side ask.node lacks.dealing.side) lacks.dealing disk (ready.journal lacks.dealing lacks.file) (λ rose. calm (inr rose)) why
     lacks.cause
 
 done : OneCircuit → ClaimsStartAgain → CeilingsStartAgain → (ask : StatusAsk) (disk : DiskChange) (run : Effects)

@@ -1,10 +1,10 @@
 // A dealt file of either side.
-ghost use Rattle.std.specs.Prelude.{◌≡◌, IfOk, IfErr, OnOk};
+ghost use Rattle.std.specs.Prelude.{◌≡◌, None, IfOk, IfErr, OnOk};
 ghost use Rattle.zk_model.specs.Files.{AreParams};
 ghost use Rattle.zk_port.specs.Changes.{change};
 ghost use Rattle.dealer_files.specs.Faults.{IsFirstFileFault};
 ghost use Rattle.file_commands.specs.Effects.{IsName, OnlyLoads};
-ghost use Rattle.status_command.specs.StatusRuns.{DealtStop, IsDealing, IsDealingOf, dealing_of, side_in};
+ghost use Rattle.status_command.specs.StatusRuns.{DealtStop, IsDealing, IsDealingOf, dealing_of, node_of, side_in, side_of};
 
 use dealer_files::{FileFault, ProverFile, VerifierFile, decode_prover, decode_verifier};
 use file_commands::{Refusal, load_file};
@@ -20,11 +20,12 @@ pub struct Dealing {
     pub params: Params,
 }
 
-/// A dealt file.
+/// A dealt file; or a verifier's file, and the number of a node that holds it.
 #[derive(Drop)]
 pub enum DealtFile {
     Prover(ProverFile),
     Verifier(VerifierFile),
+    Node(VerifierFile, u32),
 }
 
 impl DealtFile {
@@ -39,7 +40,7 @@ impl DealtFile {
                 id: file.id(),
                 params: file.params(),
             },
-            DealtFile::Verifier(file) => Dealing {
+            DealtFile::Verifier(file) | DealtFile::Node(file, _) => Dealing {
                 side: Side::Verifier,
                 id: file.id(),
                 params: file.params(),
@@ -60,8 +61,9 @@ fn side_in(bytes: &[u8]) -> Side
 }
 
 /// The dealt file that these bytes are, of the side that they say.
-fn decode_dealt(alloc: Global, bytes: &[u8]) -> Result<DealtFile, FileFault>
-    ensures file { IfOk result (λ file. IsDealingOf bytes.now (dealing_of file)) }
+fn decode_told(alloc: Global, bytes: &[u8]) -> Result<DealtFile, FileFault>
+    ensures file { IfOk result (λ file. IsDealingOf None bytes.now (dealing_of file)) }
+    ensures node { IfOk result (λ file. node_of file ≡ None) }
     ensures fault { IfErr result (λ fault. IsFirstFileFault (side_in bytes.now) bytes.now fault) }
 {
     match side_in(bytes) {
@@ -82,14 +84,38 @@ fn decode_dealt(alloc: Global, bytes: &[u8]) -> Result<DealtFile, FileFault>
     }
 }
 
-/// The dealt file of this name.
-pub fn load_dealt<F: Shelf>(alloc: Global, shelf: &mut F, name: &str) -> Result<DealtFile, Refusal>
-    ensures file { IfOk result (λ file. IsDealing (F.state shelf.old).told name.now (dealing_of file)) }
-    ensures stop { IfErr result (DealtStop name.now (change (F.state shelf.old) (F.state shelf.new))) }
+/// The dealt file that these bytes are: with a node a verifier's, and else of the side that they say.
+fn decode_dealt(alloc: Global, bytes: &[u8], node: Option<u32>) -> Result<DealtFile, FileFault>
+    ensures file { IfOk result (λ file. IsDealingOf node bytes.now (dealing_of file)) }
+    ensures node { IfOk result (λ file. node_of file ≡ node) }
+    ensures fault { IfErr result (λ fault. IsFirstFileFault (side_of node bytes.now) bytes.now fault) }
+{
+    match node {
+        None => decode_told(alloc, bytes),
+        Some(number) => match decode_verifier(alloc, bytes) {
+            Ok(file) => {
+                let _id = file.id();
+                Ok(DealtFile::Node(file, number))
+            }
+            Err(fault) => Err(fault),
+        },
+    }
+}
+
+/// The dealt file of this name: with a node a verifier's, and else of the side that it says.
+pub fn load_dealt<F: Shelf>(
+    alloc: Global,
+    shelf: &mut F,
+    name: &str,
+    node: Option<u32>,
+) -> Result<DealtFile, Refusal>
+    ensures file { IfOk result (λ file. IsDealing (F.state shelf.old).told name.now node (dealing_of file)) }
+    ensures node { IfOk result (λ file. node_of file ≡ node) }
+    ensures stop { IfErr result (DealtStop name.now node (change (F.state shelf.old) (F.state shelf.new))) }
     ensures kept { OnlyLoads (IsName name.now) (change (F.state shelf.old) (F.state shelf.new)) }
     ensures quiet { OnOk result (F.state shelf.new ≡ F.state shelf.old) }
 {
     let bytes = load_file(alloc, shelf, name)?;
-    let file = decode_dealt(alloc, &bytes)?;
+    let file = decode_dealt(alloc, &bytes, node)?;
     Ok(file)
 }

@@ -78,7 +78,7 @@ pub fn load_session<F: Shelf>(
 }
 
 /// How many sessions of this size so many units are enough for.
-pub fn sessions_in(size: SessionSize, left: u64) -> u64
+fn sessions_in(size: SessionSize, left: u64) -> u64
     ensures { result ≡ sessions_in size.units left }
 {
     if size.units > MAX_UNITS {
@@ -86,4 +86,11 @@ pub fn sessions_in(size: SessionSize, left: u64) -> u64
     } else {
         left / size.units
     }
+}
+
+/// How many sessions these units are enough for, where their size is known.
+pub fn sessions_of(session: Option<SessionSize>, left: u64) -> Option<u64>
+    ensures { result ≡ option_map (λ s. sessions_in s.units left) session }
+{
+    session.map(|size| sessions_in(size, left))
 }

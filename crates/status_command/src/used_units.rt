@@ -4,12 +4,13 @@ ghost use Rattle.claim_store.specs.ClaimedRanges.{RiseFrom};
 ghost use Rattle.claim_store.specs.Claims.{AreClaims};
 ghost use Rattle.lease_store.specs.Ceilings.{SaysCeiling};
 ghost use Rattle.file_commands.specs.Journals.{IsCeilingsFault, IsClaimsFault, IsJournalDisk, JournalStop};
-ghost use Rattle.file_commands.specs.Journals.{OnlyReads, OpensJournal, disk_change, read_journal};
-ghost use Rattle.status_command.specs.StatusRuns.{IsJournalFault, SaysClaimed, SaysUsed, dealing_of, units_of};
+ghost use Rattle.file_commands.specs.Journals.{OnlyReads, OpensJournal, disk_change, node_journal_name, read_journal};
+ghost use Rattle.zk_port.specs.declared.access.Access.TheVariants.{Read};
+ghost use Rattle.status_command.specs.StatusRuns.{IsJournalFault, SaysClaimed, SaysUsed, dealing_of, node_of, status_journal, units_of};
 
 use crate::dealing::DealtFile;
 use dealer_files::{ProverFile, VerifierFile};
-use file_commands::{Refusal, open_ceilings, open_claims};
+use file_commands::{Refusal, open_ceilings, open_claims, open_node_claims};
 use std::alloc::Global;
 use zk_model::Span;
 use zk_port::{Access, Disk};
@@ -83,7 +84,35 @@ fn leased_units<B: Disk>(
     Ok((used, parts.into_disk()))
 }
 
-/// How many units of this dealt file its journal says are used, and the disk.
+/// How many units of this verifier's file the claims in the journal of the node of this number take, and the disk.
+fn node_units<B: Disk>(
+    alloc: Global,
+    journal: B,
+    name: &str,
+    node: u32,
+    file: &VerifierFile,
+) -> Result<(u64, B), (Refusal, B)>
+    requires disk { IsJournalDisk (B.state journal) }
+    ensures opens { IfOk result (λ r. OpensJournal (node_journal_name name.now node, Read)
+        (disk_change (B.state journal) (B.state r.1))) }
+    ensures says { IfOk result (λ r. (bytes : List ℕ) → (B.state journal).content ≡ Some bytes
+        → SaysClaimed file.now.id file.now.params.total r.0 bytes) }
+    ensures within { IfOk result (λ r. r.0 ≤ file.now.params.total) }
+    ensures reads { IfErr result (λ e. OnlyReads (node_journal_name name.now node, Read)
+        (disk_change (B.state journal) (B.state e.1))) }
+    ensures stop { IfErr result (λ e. JournalStop
+        (IsClaimsFault file.now.id file.now.params.total (B.state journal))
+        (disk_change (B.state journal) (B.state e.1)) e.0) }
+{
+    let store = match open_node_claims(alloc, journal, name, node, Access::Read, file) {
+        Ok(store) => store,
+        Err(stop) => return Err(stop),
+    };
+    let used = units_in(store.claims(), file.total());
+    Ok((used, store.close()))
+}
+
+/// How many units of this dealt file its journal, or the node's, says are used, and the disk.
 pub fn read_used<B: Disk>(
     alloc: Global,
     journal: B,
@@ -91,17 +120,20 @@ pub fn read_used<B: Disk>(
     file: &DealtFile,
 ) -> Result<(u64, B), (Refusal, B)>
     requires disk { IsJournalDisk (B.state journal) }
-    ensures opens { IfOk result (λ r. OpensJournal (read_journal name.now)
+    ensures opens { IfOk result (λ r. OpensJournal (status_journal name.now (node_of file.now))
         (disk_change (B.state journal) (B.state r.1))) }
-    ensures says { IfOk result (λ r. SaysUsed (dealing_of file.now) (B.state journal) r.0) }
+    ensures says { IfOk result (λ r.
+        SaysUsed (node_of file.now) (dealing_of file.now) (B.state journal) r.0) }
     ensures within { IfOk result (λ r. r.0 ≤ (dealing_of file.now).params.total) }
-    ensures reads { IfErr result (λ e. OnlyReads (read_journal name.now)
+    ensures reads { IfErr result (λ e. OnlyReads (status_journal name.now (node_of file.now))
         (disk_change (B.state journal) (B.state e.1))) }
-    ensures stop { IfErr result (λ e. JournalStop (IsJournalFault (dealing_of file.now) (B.state journal))
+    ensures stop { IfErr result (λ e. JournalStop
+        (IsJournalFault (node_of file.now) (dealing_of file.now) (B.state journal))
         (disk_change (B.state journal) (B.state e.1)) e.0) }
 {
     match file {
         DealtFile::Prover(file) => claimed_units(alloc, journal, name, file),
         DealtFile::Verifier(file) => leased_units(alloc, journal, name, file),
+        DealtFile::Node(file, node) => node_units(alloc, journal, name, *node, file),
     }
 }

@@ -7,7 +7,7 @@ use Rattle.zk_port.specs.Links.{LinkState}
 use Rattle.zk_port.specs.Shelves.{ShelfState}
 use Rattle.command_words.specs.BitWords.{Bits, BitsAsk, said, named}
 use Rattle.command_words.specs.Words.{Ask}
-use Rattle.command_words.specs.declared.asks.Ask.TheVariants.{Rehearse as rehearse, Generate as generate, RehearseArith as rehearse_arith, Eval as eval, Deal as deal, Serve as serve, ServeMany as serve_many, ServeArith as serve_arith, Prove as prove, ProveArith as prove_arith, Audit as audit, AuditArith as audit_arith, Migrate as migrate, Status as status}
+use Rattle.command_words.specs.declared.asks.Ask.TheVariants.{Rehearse as rehearse, Generate as generate, RehearseArith as rehearse_arith, Eval as eval, Deal as deal, Serve as serve, ServeMany as serve_many, ServeArith as serve_arith, Prove as prove, ProveArith as prove_arith, Audit as audit, AuditArith as audit_arith, Migrate as migrate, Status as status, Node as node}
 use Rattle.claim_files.specs.Services.{service_asked, service_of_arith}
 use Rattle.proof_audit.specs.AuditRuns.{Audits}
 use Rattle.proof_audit.specs.NamedAudits.{audit_asked, audit_of_arith}
@@ -24,6 +24,7 @@ use Rattle.file_commands.specs.declared.refusal.Refusal.TheVariants as stop
 use Rattle.file_commands.proofs.Means.{IsHigh, stop_answers}
 use Rattle.zk_cli.specs.ManyRuns.{ServesMany}
 use Rattle.zk_cli.specs.Meets.{DoesGiven, IsLocal, LacksBits, Meets, Promises, follows}
+use Rattle.node_command.specs.NodeRuns.{MakesNode}
 use Rattle.prove_command.specs.Proofs.{proof_asked, proof_of_arith}
 use Rattle.zk_cli.specs.ProvedParts.{ProvesPart}
 use Rattle.zk_cli.specs.ArithRuns.{RehearsesArith}
@@ -78,6 +79,7 @@ module _ (why : Refusal) (low : stop_status why ≤ 2) (unloaded : (name : List 
   given_is_high (prove ask) shelf (inr (inr (public, bits, one, two, cause))) = word_is_high ask.circuit Outputs ask.outputs shelf cause
   given_is_high (prove_arith ask) shelf (inr cause) = absurd cause
   given_is_high (audit ask) shelf (inr cause) = claimed_are_high ask.circuit ask.public ask.outputs shelf cause
+  given_is_high (node ask) shelf (inr cause) = absurd cause
   given_is_high (audit_arith ask) shelf (inr cause) = absurd cause
   given_is_high (migrate ask) shelf (inr cause) = absurd cause
   given_is_high (status ask) shelf (inr cause) = absurd cause
@@ -140,6 +142,7 @@ module _ {F L B D : Type 0} (shelf_tells : F → ShelfState) (door_tells : D →
   meets_on (rehearse_arith ask) meets = (held (λ run. RehearsesArith ask seed part run) meets.0, local_on meets.1)
   meets_on (eval ask) meets = (held (λ run. Evaluates ask run) meets.0, meets.1, local_on meets.2)
   meets_on (deal ask) meets = (held (λ run. Deals ask seed run) meets.0, meets.1, local_on meets.2)
+  meets_on (node ask) meets = (held (λ run. MakesNode ask run) meets.0, meets.1, local_on meets.2)
   meets_on (audit ask) meets = (held (λ run. Audits (audit_asked ask) run) meets.0, meets.1, local_on meets.2)
   meets_on (audit_arith ask) meets = (held (λ run. Audits (audit_of_arith ask) run) meets.0, meets.1, local_on meets.2)
   meets_on (status ask) meets = (held (λ run. Reports ask disk run) meets.0, meets.1, meets.2)

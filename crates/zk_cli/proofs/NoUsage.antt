@@ -7,7 +7,7 @@ use Rattle.session_prover.specs.declared.note.ProverOutcome.{ProverOutcome}
 use Rattle.session_prover.specs.declared.note.ProverOutcome.TheVariants as ended
 use Rattle.command_words.specs.BitWords.{Bits}
 use Rattle.command_words.specs.Words.{Ask, RehearseArithAsk, ServeManyAsk}
-use Rattle.command_words.specs.declared.asks.Ask.TheVariants.{Rehearse as rehearse, Generate as generate, RehearseArith as rehearse_arith, Eval as eval, Deal as deal, Serve as serve, ServeMany as serve_many, ServeArith as serve_arith, Prove as prove, ProveArith as prove_arith, Audit as audit, AuditArith as audit_arith, Migrate as migrate, Status as status}
+use Rattle.command_words.specs.declared.asks.Ask.TheVariants.{Rehearse as rehearse, Generate as generate, RehearseArith as rehearse_arith, Eval as eval, Deal as deal, Serve as serve, ServeMany as serve_many, ServeArith as serve_arith, Prove as prove, ProveArith as prove_arith, Audit as audit, AuditArith as audit_arith, Migrate as migrate, Status as status, Node as node}
 use Rattle.claim_files.specs.Services.{Service, service_asked, service_of_arith}
 use Rattle.file_commands.specs.Effects.{DoorChange, Effects, ShelfChange}
 use Rattle.file_commands.specs.Journals.{DiskChange}
@@ -190,6 +190,7 @@ command_two (generate ask) seed disk run meets two = means_two _ _ _ run.effects
 command_two (rehearse_arith ask) seed disk run meets two = arith_two ask run.part run.effects meets.0.means two
 command_two (eval ask) seed disk run meets two = means_two _ _ _ run.effects meets.0.means two
 command_two (deal ask) seed disk run meets two = means_two _ _ _ run.effects meets.0.means two
+command_two (node ask) seed disk run meets two = means_two _ _ _ run.effects meets.0.means two
 command_two (audit ask) seed disk run meets two = audit_two (audit_asked ask) run.effects meets.0.means two
 command_two (audit_arith ask) seed disk run meets two = audit_two (audit_of_arith ask) run.effects meets.0.means two
 command_two (migrate ask) seed disk run meets two = elim meets.0.statuses [

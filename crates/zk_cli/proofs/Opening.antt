@@ -9,7 +9,7 @@ use Rattle.lease_store.specs.Ceilings.{SaysCeiling}
 use Rattle.session_core.specs.Jobs.{VerifierJob, VerifierJobs}
 use Rattle.session_pool.specs.Doors.{TakesLinks}
 use Rattle.session_pool.specs.Notes.{AreGrantsApart, IsLeft, IsNoteOf, IsRefusedAmong}
-use Rattle.session_verifier.specs.Outcomes.{lease_fault}
+use Rattle.session_verifier.specs.Outcomes.{grant_fault}
 use Rattle.session_verifier.specs.Sessions.{IsAnsweredNote}
 use Rattle.session_verifier.specs.declared.note.SessionNote.{SessionNote}
 use Rattle.claim_files.specs.Services.{Service}
@@ -51,8 +51,8 @@ pub leads_jobs : {L : Type 0} (link_tells : L → LinkState) (service : Service)
     (after_listen service.address service.options.timeout service.options.sessions door.old) door.new
     → AllPairs (λ (one other : SessionNote L). AreGrantsApart one.granted other.granted) notes
     → (fresh : Type 0) → fresh → IsLeft fresh mid new jobs.first.task.file.id base jobs.first.task.file.params.total service.options.workers (units_of_note jobs) (λ (note : SessionNote L). note.granted)
-    (λ (note : SessionNote L). lease_fault note.outcome) notes
-    → All (λ note. IfSome (lease_fault note.outcome) (IsRefusedAmong (units_of_note jobs) base jobs.first.task.file.params.total notes note)) notes
+    (λ (note : SessionNote L). grant_fault note.outcome) notes
+    → All (λ note. IfSome (grant_fault note.outcome) (IsRefusedAmong (units_of_note jobs) base jobs.first.task.file.params.total notes note)) notes
     → LeadsJobs link_tells service jobs notes door_failed memory_failed (disk_change old new) door
 leads_jobs {L} link_tells service jobs notes door_failed memory_failed old mid new door base only_now few opens recovered each taken apart fresh unused left refused = record {
   few = few;

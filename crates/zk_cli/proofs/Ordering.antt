@@ -10,11 +10,11 @@ use Rattle.zk_port.specs.Doors.{after_listen}
 use Rattle.zk_port.specs.Files.{Files}
 use Rattle.zk_port.specs.Links.{LinkState}
 use Rattle.lease_core.specs.Machine.{ceiling_for}
-use Rattle.lease_store.specs.declared.LeaseFault.{LeaseFault}
+use Rattle.lease_store.specs.declared.grantor.GrantFault.{GrantFault}
 use Rattle.session_core.specs.Jobs.{VerifierJobs}
 use Rattle.session_pool.specs.Doors.{TakesLinks}
 use Rattle.session_pool.specs.Notes.{AreGrantsApart, IsBetween, IsMarked, IsRefusedAmong, IsRefusedBy, TellsMark, meets_fault}
-use Rattle.session_verifier.specs.Outcomes.{lease_fault}
+use Rattle.session_verifier.specs.Outcomes.{grant_fault}
 use Rattle.session_verifier.specs.Sessions.{IsVerifierNote}
 use Rattle.session_verifier.specs.declared.note.SessionNote.{SessionNote}
 use Rattle.claim_files.specs.Services.{Service}
@@ -85,7 +85,7 @@ module _ {X : Type 0} (R : X → X → Type 0) (both : (x y : X) → R x y → R
   pairs_permuted xs ys permuted pairs = IsPermutation-keeps xs (AllPairs R) pairs swapped_pairs ys permuted
 
 -- a lease that was refused among sessions was refused among them in another order
-among_permuted : {M : Type 0} (size : M → ℕ) (base total : ℕ) (notes ordered : List M) (note : M) (fault : Option LeaseFault)
+among_permuted : {M : Type 0} (size : M → ℕ) (base total : ℕ) (notes ordered : List M) (note : M) (fault : Option GrantFault)
     → IsPermutation notes ordered → IfSome fault (IsRefusedAmong size base total notes note) → IfSome fault (IsRefusedAmong size base total ordered note)
 among_permuted size base total notes ordered note None permuted among = tt
 among_permuted size base total notes ordered note (Some fault) permuted among = record {
@@ -121,12 +121,12 @@ leads_permuted {L} link_tells service jobs notes ordered door_failed memory_fail
       within = All-permutation (λ (note : SessionNote L). IfSome note.granted (λ span. span.end ≤ total)) notes ordered permuted leads.within;
       most = subst (λ (n : ℕ). leads.ceiling ≤ max leads.base (ceiling_for total (leads.base + n)))
           (sym (sum_by-IsPermutation (units_of_note jobs) notes ordered permuted)) leads.most;
-      marked = All-permutation (λ (note : SessionNote L). IsMarked leads.mark (lease_fault note.outcome)) notes ordered permuted leads.marked;
-      told = All-permutation (λ (note : SessionNote L). TellsMark leads.mark (lease_fault note.outcome)) notes ordered permuted leads.told;
-      once = subst (λ (n : ℕ). n ≤ 1) (sym (sum_by-IsPermutation (λ (note : SessionNote L). meets_fault (lease_fault note.outcome)) notes ordered permuted)) leads.once;
+      marked = All-permutation (λ (note : SessionNote L). IsMarked leads.mark (grant_fault note.outcome)) notes ordered permuted leads.marked;
+      told = All-permutation (λ (note : SessionNote L). TellsMark leads.mark (grant_fault note.outcome)) notes ordered permuted leads.told;
+      once = subst (λ (n : ℕ). n ≤ 1) (sym (sum_by-IsPermutation (λ (note : SessionNote L). meets_fault (grant_fault note.outcome)) notes ordered permuted)) leads.once;
       refused = λ k d within.
-          among_permuted (units_of_note jobs) leads.base total notes ordered (get_or ordered k d) (lease_fault (get_or ordered k d).outcome) permuted
-          (All-permutation (λ (note : SessionNote L). IfSome (lease_fault note.outcome) (IsRefusedAmong (units_of_note jobs) leads.base total notes note))
+          among_permuted (units_of_note jobs) leads.base total notes ordered (get_or ordered k d) (grant_fault (get_or ordered k d).outcome) permuted
+          (All-permutation (λ (note : SessionNote L). IfSome (grant_fault note.outcome) (IsRefusedAmong (units_of_note jobs) leads.base total notes note))
           notes ordered permuted leads.refused k d within);
       passes = leads.passes;
       workers = leads.workers;

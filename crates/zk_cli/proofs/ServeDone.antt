@@ -21,13 +21,14 @@ use Rattle.element_file.specs.Laws.{ElementsAreExact}
 use Rattle.lease_store.specs.Laws.{CeilingsStartAgain}
 use Rattle.lease_journal.specs.declared.fault.StartFault.{StartFault}
 use Rattle.lease_journal.specs.declared.fault.StartFault.TheVariants as start
-use Rattle.lease_store.specs.declared.LeaseFault.{LeaseFault}
+use Rattle.lease_store.specs.declared.grantor.GrantFault.{GrantFault}
 use Rattle.lease_store.specs.declared.LeaseFault.TheVariants as lease
+use Rattle.lease_store.specs.declared.grantor.GrantFault.TheVariants as grant
 use Rattle.zk_model.specs.declared.Span.{Span}
 use Rattle.session_core.specs.Jobs.{VerifierJob, VerifierJobs, all_jobs, noted_job, units_of_job}
-use Rattle.session_pool.specs.Notes.{IsMarked, IsRefusedAmong}
+use Rattle.session_pool.specs.Notes.{IsMarked, IsOfStore, IsRefusedAmong}
 use Rattle.session_verifier.specs.Notes.{AnswersLease}
-use Rattle.session_verifier.specs.Outcomes.{lease_fault}
+use Rattle.session_verifier.specs.Outcomes.{grant_fault}
 use Rattle.session_verifier.specs.declared.note.SessionNote.{SessionNote}
 use Rattle.session_verifier.specs.declared.note.VerifierOutcome.{VerifierOutcome}
 use Rattle.session_verifier.specs.declared.note.VerifierOutcome.TheVariants.{Accepted, NoMemory}
@@ -155,9 +156,9 @@ module _ {L : Type 0} (link_tells : L → LinkState) (service : Service) (notes 
   size_most note = noted_most jobs most (ready.room jobs files.served).1 note.statement
 
   -- no lease is refused
-  unrefused : (note : SessionNote L) (fault : LeaseFault) → IsMarked files.leads.mark (Some fault)
+  unrefused : (note : SessionNote L) (fault : GrantFault) → IsMarked files.leads.mark (Some fault)
       → IsRefusedAmong (units_of_note jobs) files.leads.base total notes note fault → 1 ≤ length notes → ⊥
-  unrefused note (lease.Exhausted at count all) marked refused some =
+  unrefused note (grant.Lease (lease.Exhausted at count all)) marked refused some =
       let fits : at + units_of_note jobs refused.drawer ≤ total = one_more leaves.base (sum_by (units_of_note jobs) notes)
       (units_of_note jobs refused.drawer) (units_of_note jobs note) most (length notes) service.options.sessions total at
       (sum_by-le (units_of_note jobs) most notes (λ k d l. size_most (get_or notes k d)))
@@ -166,27 +167,30 @@ module _ {L : Type 0} (link_tells : L → LinkState) (service : Service) (notes 
       base_is refused.refused.0) leaves.enough in
       let beyond = refused.refused.3 in
       omega (arith, fits, beyond)
-  unrefused note lease.Device marked refused some = calm (rose_by disk.old.faults files.leads.mark disk.new.faults (files.leads.kept.rose marked))
-  unrefused note (lease.Broken first) marked refused some = calm (rose_by disk.old.faults files.leads.mark disk.new.faults (files.leads.kept.rose marked))
+  unrefused note (grant.Lease lease.Device) marked refused some = calm (rose_by disk.old.faults files.leads.mark disk.new.faults (files.leads.kept.rose marked))
+  unrefused note (grant.Lease (lease.Broken first)) marked refused some = calm (rose_by disk.old.faults files.leads.mark disk.new.faults (files.leads.kept.rose marked))
+  unrefused note grant.NoMemory marked refused some = marked
+  unrefused note (grant.NoBlock wants) marked refused some = marked
+  unrefused note grant.Broker marked refused some = marked
 
   note_done : (place : ℕ) (default : SessionNote L) → place < length notes → IsWithHonestProver link_tells told service (get_or notes place default)
       → ((get_or notes place default).outcome ≡ Accepted) ⊎ ((get_or notes place default).outcome ≡ NoMemory)
   note_done place default within honest =
       let note : SessionNote L = get_or notes place default in
       let is = files.leads.each place default within in
-      let session = is.1.session in
+      let session = is.2.session in
       let peer = honest.honest jobs files.served in
-      is.1.complete peer.0 peer.1
-      (λ fault same. refused_lease note is.0 session.refused fault same (files.leads.marked place default within) (files.leads.refused place default within))
+      is.2.complete peer.0 peer.1
+      (λ fault same. refused_lease note is.0 is.1 session.refused fault same (files.leads.marked place default within) (files.leads.refused place default within))
       (λ rose. honest.calm (subst (λ (n : ℕ). Rose n (link_tells note.link).faults) session.fresh.unfailed rose))
     where
-      refused_lease : (note : SessionNote L) (answer : Option (Result Span LeaseFault)) → AnswersLease answer note.outcome
-          → (fault : LeaseFault) → answer ≡ Some (Err fault) → IsMarked files.leads.mark (lease_fault note.outcome)
-          → IfSome (lease_fault note.outcome) (IsRefusedAmong (units_of_note jobs) files.leads.base total notes note) → ⊥
-      refused_lease note answer answers fault same marked refused =
-          let told_so : lease_fault note.outcome ≡ Some fault = refusal_is_told answer note.outcome fault answers same in
+      refused_lease : (note : SessionNote L) (answer : Option (Result Span GrantFault)) → IsOfStore answer → AnswersLease answer note.outcome
+          → (fault : GrantFault) → answer ≡ Some (Err fault) → IsMarked files.leads.mark (grant_fault note.outcome)
+          → IfSome (grant_fault note.outcome) (IsRefusedAmong (units_of_note jobs) files.leads.base total notes note) → ⊥
+      refused_lease note answer of answers fault same marked refused =
+          let told_so : grant_fault note.outcome ≡ Some fault = refusal_is_told answer note.outcome fault of answers same in
           unrefused note fault (subst (IsMarked files.leads.mark) told_so marked)
-          (subst (λ (o : Option LeaseFault). IfSome o (IsRefusedAmong (units_of_note jobs) files.leads.base total notes note)) told_so refused)
+          (subst (λ (o : Option GrantFault). IfSome o (IsRefusedAmong (units_of_note jobs) files.leads.base total notes note)) told_so refused)
           (omega (arith, within))
 
 no_status : (status : ℕ) (outcome : VerifierOutcome) → (outcome ≡ Accepted) ⊎ (outcome ≡ NoMemory) → status ≢ 0 → status ≢ 7

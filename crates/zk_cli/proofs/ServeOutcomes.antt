@@ -4,10 +4,10 @@ use Rattle.std.specs.Prelude.{◌==◌, ◌||◌, if◌then◌else◌}
 use Rattle.zk_port.specs.Doors.{DoorState}
 use Rattle.zk_port.specs.Links.{LinkState}
 use Rattle.session_pool.specs.Notes.{IsMarked}
-use Rattle.session_verifier.specs.Outcomes.{lease_fault}
+use Rattle.session_verifier.specs.Outcomes.{grant_fault}
 use Rattle.session_verifier.specs.declared.note.SessionNote.{SessionNote}
 use Rattle.session_verifier.specs.declared.note.VerifierOutcome.{VerifierOutcome}
-use Rattle.session_verifier.specs.declared.note.VerifierOutcome.TheVariants.{Accepted, RejectedSum, RejectedOpening, PeerEnded, BadFrame, BadHello, Exhausted, Device, Broken, Link, NoMemory}
+use Rattle.session_verifier.specs.declared.note.VerifierOutcome.TheVariants.{Accepted, RejectedSum, RejectedOpening, PeerEnded, BadFrame, BadHello, Exhausted, Device, Broken, NoBlock, Broker, Link, NoMemory}
 use Rattle.claim_files.specs.Services.{Service}
 use Rattle.file_commands.specs.Journals.{DiskChange}
 use Rattle.session_verifier.specs.NoteLines.{IsServedText, has_status, served_status, failures, outcome_status}
@@ -90,6 +90,8 @@ is_accepted (BadHello differs) one four five six seven = absurd (true_is_false o
 is_accepted (Exhausted at count total) one four five six seven = absurd (true_is_false six)
 is_accepted Device one four five six seven = absurd (true_is_false five)
 is_accepted (Broken first) one four five six seven = absurd (true_is_false five)
+is_accepted (NoBlock wants) one four five six seven = absurd (true_is_false one)
+is_accepted Broker one four five six seven = absurd (true_is_false four)
 is_accepted Link one four five six seven = absurd (true_is_false four)
 is_accepted NoMemory one four five six seven = absurd (true_is_false seven)
 
@@ -126,7 +128,7 @@ all_accepted (note ∷ notes) one four five six seven (suc place) default within
 
 -- ---- a journal that failed
 
-marks_one : (mark : ℕ) (outcome : VerifierOutcome) → (outcome_status outcome == 5) ≡ true → IsMarked mark (lease_fault outcome) → mark ≢ 0
+marks_one : (mark : ℕ) (outcome : VerifierOutcome) → (outcome_status outcome == 5) ≡ true → IsMarked mark (grant_fault outcome) → mark ≢ 0
 marks_one mark Accepted five marked = absurd (true_is_false (sym five))
 marks_one mark (RejectedSum section left right) five marked = absurd (true_is_false (sym five))
 marks_one mark (RejectedOpening output left right) five marked = absurd (true_is_false (sym five))
@@ -136,11 +138,13 @@ marks_one mark (BadHello differs) five marked = absurd (true_is_false (sym five)
 marks_one mark (Exhausted at count total) five marked = absurd (true_is_false (sym five))
 marks_one mark Device five marked = marked
 marks_one mark (Broken first) five marked = marked
+marks_one mark (NoBlock wants) five marked = absurd (true_is_false (sym five))
+marks_one mark Broker five marked = absurd (true_is_false (sym five))
 marks_one mark Link five marked = absurd (true_is_false (sym five))
 marks_one mark NoMemory five marked = absurd (true_is_false (sym five))
 
 marks : {L : Type 0} (mark : ℕ) (notes : List (SessionNote L)) → has_status notes 5 ≡ true
-    → All (λ note. IsMarked mark (lease_fault note.outcome)) notes → mark ≢ 0
+    → All (λ note. IsMarked mark (grant_fault note.outcome)) notes → mark ≢ 0
 marks mark [] five marked = absurd (true_is_false (sym five))
 marks mark (note ∷ notes) five marked = elim (either_is (outcome_status note.outcome == 5) (has_status notes 5) five) [
   | inl here ↦ marks_one mark note.outcome here (marked 0 note (omega arith))

@@ -19,7 +19,7 @@ use Rattle.zk_port.specs.Changes.{change}
 use Rattle.zk_port.specs.Counts.{Rose}
 use Rattle.dealer_files.specs.Faults.{IsFirstFileFault}
 use Rattle.zk_port.specs.Files.{Files, StandsLonger}
-use Rattle.lease_store.specs.declared.LeaseFault.{LeaseFault}
+use Rattle.lease_store.specs.declared.grantor.GrantFault.{GrantFault}
 use Rattle.session_core.specs.Jobs.{VerifierJob, VerifierJobs, all_jobs, job_at, noted_job}
 use Rattle.session_pool.specs.Notes.{granted_by}
 use Rattle.session_verifier.specs.Notes.{IsShown, TakesStatement}
@@ -130,7 +130,7 @@ headline law arith exact told service claim claimed job served granted log shown
 }
 
 -- a note with granted units is about a statement that was taken
-ungranted : (granted : Option Span) (span : Span) (answer : Option (Result Span LeaseFault)) → granted ≡ granted_by answer → granted ≡ Some span
+ungranted : (granted : Option Span) (span : Span) (answer : Option (Result Span GrantFault)) → granted ≡ granted_by answer → granted ≡ Some span
     → answer ≡ None → ⊥
 ungranted granted span answer by leased none =
     let impossible : None ≡ Some span = sym (by ∙ ap granted_by none) ∙ leased in cc
@@ -149,7 +149,7 @@ claim_job told service jobs served n within =
     )
 
 shows_claim : ExtractedShowsOutputs → ExtractedShowsElements → ElementsAreExact → (told : Option Files) (service : Service) (jobs : VerifierJobs) → AreServeJobs told service jobs
-    → (answer : Option (Result Span LeaseFault)) (taken : Option ℕ) (granted : Option Span) (outcome : VerifierOutcome) (log : List (Side × ℕ)) (link : LinkState)
+    → (answer : Option (Result Span GrantFault)) (taken : Option ℕ) (granted : Option Span) (outcome : VerifierOutcome) (log : List (Side × ℕ)) (link : LinkState)
     → TakesStatement jobs taken answer outcome log → IsVerifierSession (noted_job jobs taken) answer granted outcome log link → outcome ≡ Accepted
     → (n : ℕ) × (taken ≡ Some n) × (claim : ClaimNames) × (slice_get service.claims n ≡ Some claim) × IsHeadline told service claim granted log
 shows_claim law arith exact told service jobs served answer None granted outcome log link takes session accepted =
@@ -168,7 +168,7 @@ headlines link_tells law arith exact told service notes disk door door_failed me
     let note = get_or notes k default in
     let is = files.leads.each k default within in
     let shows = shows_claim law arith exact told service files.jobs files.served is.0 note.statement note.granted note.outcome note.log (link_tells note.link)
-    is.1.statement is.1.session accepted in
+    is.2.statement is.2.session accepted in
     record { number = shows.0; taken = shows.1; claim = shows.2; named = shows.3; shows = shows.4 }
 
 -- no journal is marked where no call of the disk failed

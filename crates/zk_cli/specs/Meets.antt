@@ -3,7 +3,7 @@ use Rattle.std.specs.Prelude.{◌≡◌, ◌⊎◌, ℕ, List, Bool, false, Opti
 use Rattle.claim_files.specs.Services.{service_asked, service_of_arith}
 use Rattle.command_words.specs.BitWords.{Bits, BitsAsk}
 use Rattle.command_words.specs.Words.{Ask}
-use Rattle.command_words.specs.declared.asks.Ask.TheVariants.{Rehearse as rehearse, Eval as eval, Deal as deal, Serve as serve, ServeMany as serve_many, ServeArith as serve_arith, Prove as prove, ProveArith as prove_arith, Generate as generate, RehearseArith as rehearse_arith, Audit as audit, AuditArith as audit_arith, Migrate as migrate, Status as status}
+use Rattle.command_words.specs.declared.asks.Ask.TheVariants.{Rehearse as rehearse, Eval as eval, Deal as deal, Serve as serve, ServeMany as serve_many, ServeArith as serve_arith, Prove as prove, ProveArith as prove_arith, Generate as generate, RehearseArith as rehearse_arith, Audit as audit, AuditArith as audit_arith, Migrate as migrate, Status as status, Node as node}
 use Rattle.proof_audit.specs.AuditRuns.{Audits}
 use Rattle.proof_audit.specs.NamedAudits.{audit_asked, audit_of_arith}
 use Rattle.file_commands.specs.DealRuns.{Deals}
@@ -11,6 +11,7 @@ use Rattle.file_commands.specs.Effects.{OnlyLoads}
 use Rattle.file_commands.specs.GivenBits.{GivenStop, IsAskGiven, IsGivenName}
 use Rattle.file_commands.specs.EvalRuns.{Evaluates}
 use Rattle.file_commands.specs.MigrateRuns.{Migrates}
+use Rattle.node_command.specs.NodeRuns.{MakesNode}
 use Rattle.prove_command.specs.Proofs.{proof_asked, proof_of_arith}
 use Rattle.zk_cli.specs.ProvedParts.{ProvesPart}
 use Rattle.zk_cli.specs.ArithRuns.{RehearsesArith}
@@ -47,6 +48,7 @@ Meets (generate ask) seed disk run = Generates ask seed run.part run.effects × 
 Meets (rehearse_arith ask) seed disk run = RehearsesArith ask seed run.part run.effects × IsLocal run
 Meets (eval ask) seed disk run = Evaluates ask run.effects × (run.part ≡ Plain) × IsLocal run
 Meets (deal ask) seed disk run = Deals ask seed run.effects × (run.part ≡ Plain) × IsLocal run
+Meets (node ask) seed disk run = MakesNode ask run.effects × (run.part ≡ Plain) × IsLocal run
 Meets (audit ask) seed disk run = Audits (audit_asked ask) run.effects × (run.part ≡ Plain) × IsLocal run
 Meets (audit_arith ask) seed disk run = Audits (audit_of_arith ask) run.effects × (run.part ≡ Plain) × IsLocal run
 Meets (status ask) seed disk run = Reports ask disk run.effects × (run.part ≡ Plain) × (run.links.new ≡ run.links.old)

@@ -23,7 +23,7 @@ use Rattle.session_core.specs.declared.verifier_job.TooLarge as size
 use Rattle.session_pool.specs.Doors.{TakesLinks}
 use Rattle.session_pool.specs.Notes.{AreGrantsApart, IsBetween, IsMarked, IsRefusedAmong, TellsMark, faults_met}
 use Rattle.session_verifier.specs.Notes.{HasHonestCaller}
-use Rattle.session_verifier.specs.Outcomes.{lease_fault}
+use Rattle.session_verifier.specs.Outcomes.{grant_fault}
 use Rattle.session_verifier.specs.Sessions.{IsVerifierNote}
 use Rattle.session_verifier.specs.declared.note.SessionNote.{SessionNote}
 use Rattle.session_verifier.specs.declared.note.VerifierOutcome.TheVariants.{Accepted}
@@ -148,10 +148,10 @@ pub record LeadsJobs {L : Type 0} (link_tells : L → LinkState) (service : Serv
   pub spans : All (λ note. IsBetween (units_of_note jobs note) base ceiling note.granted) notes
   pub within : All (λ note. IfSome note.granted (λ span. span.end ≤ jobs.first.task.file.params.total)) notes
   pub most : ceiling ≤ max base (ceiling_for jobs.first.task.file.params.total (base + sum_by (units_of_note jobs) notes))
-  pub marked : All (λ note. IsMarked mark (lease_fault note.outcome)) notes
-  pub told : All (λ note. TellsMark mark (lease_fault note.outcome)) notes
-  pub once : faults_met (λ note. lease_fault note.outcome) notes ≤ 1
-  pub refused : All (λ note. IfSome (lease_fault note.outcome)
+  pub marked : All (λ note. IsMarked mark (grant_fault note.outcome)) notes
+  pub told : All (λ note. TellsMark mark (grant_fault note.outcome)) notes
+  pub once : faults_met (λ note. grant_fault note.outcome) notes ≤ 1
+  pub refused : All (λ note. IfSome (grant_fault note.outcome)
       (IsRefusedAmong (units_of_note jobs) base jobs.first.task.file.params.total notes note)) notes
   -- the passes of the workers, one for each, and what they drew
   pub passes : List Pass

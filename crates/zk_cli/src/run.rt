@@ -18,6 +18,7 @@ use crate::rehearse_command::run_rehearse;
 use crate::serve_command::{run_serve, run_serve_arith};
 use command_words::{Ask as Asks, BitsWord, Command, read_words};
 use file_commands::{Refusal, read_given, run_deal, run_eval, run_migrate, say_memory, say_stop};
+use node_command::run_node;
 use proof_audit::{run_audit, run_audit_arith};
 use prove_command::Proof;
 use status_command::{StatusEnd, run_status};
@@ -73,10 +74,11 @@ where
             let Ports { journal, door } = ports;
             let circuit = ask.circuit.as_deref();
             let StatusEnd { status, journal } = run_status(
-                alloc, shelf, journal, out, &ask.file, circuit,
+                alloc, shelf, journal, out, &ask.file, circuit, ask.node,
             );
             Ports { journal, door }.end(status)
         }
+        Asks::Node(ask) => ports.end(run_node(alloc, shelf, out, &ask.file, ask.node)),
         Asks::Migrate(ask) => {
             let Ports { mut journal, door } = ports;
             let status = run_migrate(alloc, shelf, &mut journal, out, ask.side, &ask.file);
@@ -144,8 +146,10 @@ where
 /// is; 3 where a file is refused, the outputs for it, both files or the log; 4 where a load or the output failed; and with 7; and so does
 /// `audit-arith CIRCUIT OUTPUTS PROVERFILE VERIFIERFILE LOG`, also with 3 where the file of the outputs is refused.
 /// `migrate SIDE FILE` ends with 0 where the journal is migrated, now or before; 3 where the file or the journal is refused; 4
-/// where a load or the output failed; 5 where the journal failed; and with 7. `status FILE [CIRCUIT]` ends with 0 where it is said; 3 where a
-/// file, the circuit or the journal is refused; 4 where a load or the output failed; 5 where the journal failed; and with 7.
+/// where a load or the output failed; 5 where the journal failed; and with 7. `status FILE [CIRCUIT] [--node K]` ends with 0 where it is said;
+/// 3 where a file, the circuit or the journal is refused; 4 where a load or the output failed; 5 where the journal failed; and with 7.
+/// `node FILE K` ends with 0 where the node's journal is stored and said; 3 where the file is refused; 4 where a load, the store or the output
+/// failed; and with 7.
 pub fn run_zk<R, F, D, B, O, E>(
     rt: &R,
     alloc: Global,

@@ -6,7 +6,7 @@ ghost use Rattle.lease_store.specs.Desks.{Begins};
 ghost use Rattle.lease_store.specs.Leases.{IsPassAt};
 ghost use Rattle.session_pool.specs.Doors.{TakesLinks};
 ghost use Rattle.session_pool.specs.Notes.{AreGrantsApart, IsLeft, IsNoteOf, IsRefusedAmong, IsUnused};
-ghost use Rattle.session_verifier.specs.Outcomes.{lease_fault};
+ghost use Rattle.session_verifier.specs.Outcomes.{grant_fault};
 ghost use Rattle.session_verifier.specs.Sessions.{IsAnsweredNote};
 ghost use Rattle.zk_port.specs.Changes.{change};
 ghost use Rattle.zk_model.specs.declared.limits.TheConstants.{MAX_STATEMENTS};
@@ -98,8 +98,8 @@ where
     ensures apart { AllPairs (λ m n. AreGrantsApart m.granted n.granted) result.served.notes.items }
     ensures left { IsLeft (All IsUnused passes.items) (B.state parts.disk) (B.state result.served.disk)
         jobs.now.first.task.file.id parts.base parts.total parts.passes (units_of_note jobs.now)
-        (λ n. n.granted) (λ n. lease_fault n.outcome) result.served.notes.items }
-    ensures refused { All IsUnused passes.items → All (λ note. IfSome (lease_fault note.outcome)
+        (λ n. n.granted) (λ n. grant_fault n.outcome) result.served.notes.items }
+    ensures refused { All IsUnused passes.items → All (λ note. IfSome (grant_fault note.outcome)
         (IsRefusedAmong (units_of_note jobs.now) parts.base parts.total result.served.notes.items note))
         result.served.notes.items }
     ensures tried { TriesLogs (option_map string_bytes options.now.logs)

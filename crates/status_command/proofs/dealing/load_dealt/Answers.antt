@@ -8,5 +8,5 @@ pub returns-in_err-file-clause-stop : goal.returns-in_err-file-clause-stop
 returns-in_err-file-clause-stop g c =
     let shelf = change (g.F.Shelf.state c.args.shelf.now) (g.F.Shelf.state c.load_file.new.shelf) in
     fails_at _ c.from_residual-in_err-file.result (BadFile c.in_err-file.field-0.0) c.from_residual-in_err-file.ensures.1
-    (dealt_of_bytes c.args.name.now shelf c.in_ok-bytes.bytes.items c.deref.result.now c.in_err-file.field-0.0 c.in_ok-bytes.ensures.loaded
+    (dealt_of_bytes c.args.name.now c.args.node shelf c.in_ok-bytes.bytes.items c.deref.result.now c.in_err-file.field-0.0 c.in_ok-bytes.ensures.loaded
     c.deref.ensures.value c.in_err-file.ensures.fault)

@@ -5,3 +5,6 @@ returns-in-Prover-clause-stop g c = rw c.in-Prover.is c.claimed_units.ensures.st
 
 pub returns-in-Verifier-clause-stop : goal.returns-in-Verifier-clause-stop
 returns-in-Verifier-clause-stop g c = rw c.in-Verifier.is c.leased_units.ensures.stop
+
+pub returns-in-Node-clause-stop : goal.returns-in-Node-clause-stop
+returns-in-Node-clause-stop g c = rw c.in-Node.is c.node_units.ensures.stop

@@ -5,7 +5,7 @@ use Rattle.zk_port.specs.Doors.{DoorState, after_listen}
 use Rattle.lease_store.specs.Ceilings.{HasCeilingHeader, SaysCeiling}
 use Rattle.session_pool.specs.Doors.{TakesLinks}
 use Rattle.session_pool.specs.Notes.{IsLeft, IsRefusedAmong, IsUnused}
-use Rattle.session_verifier.specs.Outcomes.{lease_fault}
+use Rattle.session_verifier.specs.Outcomes.{grant_fault}
 use Rattle.file_commands.specs.Journals.{JournalStop, OnlyReads, OpensJournal, disk_change, IsCeilingsFault, own_journal}
 use Rattle.zk_cli.specs.ServeRuns.{service_of, units_of_note}
 use Rattle.zk_cli.proofs.Opening.{first_file, lacks_journal, leads_jobs}
@@ -55,6 +55,6 @@ returns-in-Ok-listen-clause-leads g c =
     led.ensures.taken)
     led.ensures.apart (All IsUnused c.in-Ok.opened.1.items) c.in-Ok.ensures.unused
     (subst (λ (p : ℕ × ℕ). IsLeft (All IsUnused c.in-Ok.opened.1.items) mid new c.args.jobs.now.first.task.file.id base p.0 p.1
-    (units_of_note c.args.jobs.now) (λ n. n.granted) (λ n. lease_fault n.outcome) notes) (λ i. (total i, workers i)) led.ensures.left)
-    (subst (λ (n : ℕ). All (λ note. IfSome (lease_fault note.outcome) (IsRefusedAmong (units_of_note c.args.jobs.now) base n notes note)) notes)
+    (units_of_note c.args.jobs.now) (λ n. n.granted) (λ n. grant_fault n.outcome) notes) (λ i. (total i, workers i)) led.ensures.left)
+    (subst (λ (n : ℕ). All (λ note. IfSome (grant_fault note.outcome) (IsRefusedAmong (units_of_note c.args.jobs.now) base n notes note)) notes)
     total (led.ensures.refused c.in-Ok.ensures.unused))
