@@ -1,1 +1,7 @@
 pub mod Led
+pub mod Walks
+pub mod Held
+pub mod Once
+pub mod Kept
+pub mod Causes
+pub mod Journals

@@ -1,1 +1,4 @@
 pub mod Sessions
+pub mod Laws
+pub mod Causes
+pub mod Journals

@@ -3,7 +3,7 @@ use Rattle.broker_node.specs.NodeStates.{starting}
 use Rattle.node_grants.specs.Desks.{desk}
 use Rattle.node_grants.specs.Grants.{ports_of}
 use Rattle.node_sessions.proofs.Led.{IsLedSoFar}
-use Rattle.node_sessions.proofs.serving.serve_node.Given as goal
+use Rattle.node_sessions.proofs.serving.lead_all.Given as goal
 
 abbrev pub invariant-sessions : goal.invariant-sessions
 invariant-sessions g l = record {

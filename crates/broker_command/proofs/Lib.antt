@@ -1,0 +1,4 @@
+pub mod Opening
+pub mod Endings
+pub mod BrokerOutcomes
+pub mod BrokerDone
