@@ -107,8 +107,9 @@ where
     ensures kept { ClaimsStay B.state claims result.claims }
     ensures journal { JournalSaysGrants (ports_of D.Link.state B.state broker.now patience) jobs.now
         (desk (starting number) claims (D.state door) []) result.claims result.notes.items }
-    ensures causes { HaveCauses D.Link.state B.state jobs.now (desk (starting number) claims (D.state door) [])
-        (D.state result.door) result.claims result.notes.items }
+    ensures causes { HaveCauses D.Link.state B.state jobs.now
+        (desk (starting number) claims (D.state door) []) (D.state result.door) result.claims
+        result.notes.items }
 {
     lead_all(
         rt, alloc, jobs, keeper, broker, patience, number, claims, door, sessions,

@@ -1,10 +1,12 @@
 -- A file in which a journal of two areas stands from its first byte on was migrated from neither side's journal of one area.
-use Rattle.std.proofs.Common.{◌≡◌, ◌+◌, ◌*◌, ◌==◌, ◌&&◌, not, nat_le, if◌then◌else◌, ℕ, List, Bool, true, false, length, get_or, refl, ap, sym, subst, ◌∙◌, arith}
+use Rattle.std.proofs.Common.{◌≡◌, ◌+◌, ◌*◌, ◌≤◌, ◌==◌, ◌&&◌, not, nat_le, if◌then◌else◌, ℕ, List, Bool, true, false, length, get_or, refl, ap, ◌∙◌, arith}
 use Rattle.std.proofs.lemmas.Bool.Decides.{nat_tests}
 use Rattle.zk_model.specs.declared.JournalKind.{JournalKind}
 use Rattle.zk_model.specs.declared.JournalKind.TheVariants.{Claims, Ceilings}
 use Rattle.lease_journal.specs.Journals.{journal_code, slots_at}
-use Rattle.lease_journal.specs.Twins.{TwinStands, are_twin_slots, is_migrated, twin_begin, twin_code}
+use Rattle.lease_journal.specs.Twins.{TwinStands, are_twin_slots, is_migrated, twin_begin, twin_ceiling_slots, twin_code}
+use Rattle.lease_store.proofs.Finding.{few_slots}
+use Rattle.zk_model.specs.declared.limits.TheConstants.{MAX_SLOTS}
 
 pub begins_first : (kind either : JournalKind) (id : List ℕ) (total slots : ℕ) (bytes : List ℕ) → TwinStands kind id total 0 slots bytes
     → twin_begin either bytes ≡ 0
@@ -26,7 +28,12 @@ begins_first kind either id total slots bytes stands = ap (λ b. if b then 64 + 
     plain : is_migrated either bytes ≡ false
     plain = (λ i. nat_le 64 (length bytes) && (other i) && (get_or bytes 15 0 == 90)) ∙ no_middle (nat_le 64 (length bytes)) (get_or bytes 15 0 == 90)
 
--- areas of one slot may be those of either side's journal of 4 units
-pub one_fits : (kind : JournalKind) → are_twin_slots kind 4 1 ≡ true
-one_fits Claims = refl
-one_fits Ceilings = refl
+-- areas of as many slots as the verifier's journal has may be those of either side's
+pub some_fit : (kind : JournalKind) (total slots : ℕ) → slots ≡ twin_ceiling_slots total → 1 ≤ total → are_twin_slots kind total slots ≡ true
+some_fit Ceilings total slots is some = few_slots total slots is some
+some_fit Claims total slots is some = front (nat_le 1 slots) (nat_le slots MAX_SLOTS) (slots == twin_ceiling_slots total) (few_slots total slots is some)
+  where
+    front : (a b c : Bool) → (a && b && c) ≡ true → (a && b) ≡ true
+    front true true c both = refl
+    front true false c both = both
+    front false b c both = both

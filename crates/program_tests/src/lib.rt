@@ -3,8 +3,9 @@
 //! `serve_tests` has services with peers that are honest over whichever units they are granted, some of which wait for each other, and
 //! `party_tests` both ends in one process, over a connection: whole runs, through `run_zk`. `fan_tests` has the rounds of units,
 //! and `many_workers` sums along a walk, which are the same by any number of workers; `trees` has trees that are grown at once and leaf by
-//! leaf, `worked_values` a corrected wire, and slots; `broker_tests` a node and a broker, and the first bad byte of a want. `given` has dealt
-//! files and journals, `made` small elements and programs, `vectors` bytes that the program did not make.
+//! leaf, `worked_values` a corrected wire, and slots; `broker_tests` a node and a broker, and the first bad byte of a want; `node_tests` whole
+//! runs of a broker, and of a node that has its units of one. `given` has dealt files and journals, `made` small elements and programs,
+//! `vectors` bytes that the program did not make.
 #![tactic(auto)]
 
 #[cfg(test)]
@@ -17,6 +18,8 @@ mod given;
 mod made;
 #[cfg(test)]
 mod many_workers;
+#[cfg(test)]
+mod node_tests;
 #[cfg(test)]
 mod party_tests;
 #[cfg(test)]

@@ -44,7 +44,7 @@ where
 {
     let mut out = MemorySink::new(alloc, NoFault);
     let mut notices = MemorySink::new(alloc, NoFault);
-    let disk = new_journal(alloc, kind)?;
+    let disk = new_journal(alloc, kind, 4)?;
     let Finish { status, .. } = run_zk(
         rt,
         alloc,
@@ -100,7 +100,7 @@ where
 fn both_ends_agree(rt: HostRuntime) -> Result<(), Fail> {
     let alloc: Global = rt.alloc();
     let address = free_address(&rt, alloc)?;
-    let (verifiers, provers) = (dealt(&rt, alloc)?, dealt(&rt, alloc)?);
+    let (verifiers, provers) = (dealt(&rt, alloc, 4)?, dealt(&rt, alloc, 4)?);
     let (host, place) = (&rt, address.as_str());
     let (served, proved) = join(
         host,

@@ -1,4 +1,4 @@
-// Peers that are honest over whichever units they are granted.
+// Peers: provers that are honest over whichever units they are granted, and a broker of a block.
 ghost use Rattle.std.specs.Prelude.{◌≡◌};
 ghost use Rattle.zk_port.specs.Doors.{IsFreshLink};
 
@@ -16,7 +16,13 @@ fn rest_of(start: u8) -> &'static [u8] {
     }
 }
 
-/// A link whose peer proves the and gate's claim, over one of the first four units, which the verifier grants it. It tells nothing.
+/// The reply of a broker to node 1: for its want 1, the units 0 to 3.
+const BLOCK: [u8; 29] = [
+    12, 24, 0, 0, 0, 1, 0, 0, 0, 1, 0, 0, 0, 0, 0, 0, 0, 0, 0, 0, 0, 0, 0, 0, 0, 4, 0, 0, 0,
+];
+
+/// A link whose peer proves the and gate's claim, over one of the first four units, which the verifier grants it; or is a broker that has
+/// a block of these four for any want. It tells nothing.
 #[derive(Drop)]
 pub struct HonestPeer {
     to_come: &'static [u8],
@@ -44,6 +50,13 @@ impl HonestPeer {
     {
         HonestPeer::new(&AND_HELLO)
     }
+
+    /// The broker.
+    pub fn broker() -> Self
+        ensures { IsFreshLink (⟦<HonestPeer as Link>⟧.state result) }
+    {
+        HonestPeer::new(&[])
+    }
 }
 
 impl Link for HonestPeer {
@@ -66,9 +79,11 @@ impl Link for HonestPeer {
 
     fn send(&mut self, _alloc: Global, bytes: &[u8]) -> Result<(), PortFault> {
         self.sends = self.sends.saturating_add(1);
-        // A grant is a frame of kind 2, whose payload begins with the first unit, the low byte first.
-        if let [2, _, _, _, _, start, ..] = bytes {
-            self.to_come = rest_of(*start);
+        // A grant is a frame of kind 2, whose payload begins with the first unit, the low byte first; a want is one of kind 11.
+        match bytes {
+            [2, _, _, _, _, start, ..] => self.to_come = rest_of(*start),
+            [11, ..] => self.to_come = &BLOCK,
+            _ => {}
         }
         Ok(())
     }

@@ -69,10 +69,10 @@ fn served<R: Threads + Wait + Sync, L: Link + Drop + Send>(
     for word in words_of(alloc, more)? {
         words.push(word)?;
     }
-    let mut shelf = dealt(rt, alloc)?;
+    let mut shelf = dealt(rt, alloc, 4)?;
     let mut out = MemorySink::new(alloc, NoFault);
     let mut notices = MemorySink::new(alloc, NoFault);
-    let disk = new_journal(alloc, JournalKind::Ceilings)?;
+    let disk = new_journal(alloc, JournalKind::Ceilings, 4)?;
     let finish = run_zk(
         rt,
         alloc,
