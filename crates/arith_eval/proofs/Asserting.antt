@@ -23,12 +23,17 @@ pub record AreMetSoFar (rows : List ArithRow) (elements : List ℕ) (n number : 
 pub met_first : (rows : List ArithRow) (elements : List ℕ) → AreMetSoFar rows elements 0 0
 met_first rows elements = record { count = refl; few = omega arith; zero = All-nil (λ wire. element_of elements wire ≡ 0) }
 
--- the assertions of one gate more
+-- what one gate more has
+pub rows_more : (f : ArithRow → List ℕ) (rows : List ArithRow) (n : ℕ) (row : ArithRow) → slice_get rows n ≡ Some row
+    → flat_map f (take (n + 1) rows) ≡ flat_map f (take n rows) ++ f row
+rows_more f rows n row stands =
+    ap (flat_map f) (take_more rows n row (slice_get_within rows n row stands) ∙ ap (λ r. take n rows ++ r ∷ []) (get_or_from_slice_get rows n row row stands))
+    ∙ flat_map-append f (take n rows) (row ∷ []) ∙ ap (λ l. flat_map f (take n rows) ++ l) (append-nil (f row))
+
+-- its assertions
 wires_more : (rows : List ArithRow) (n : ℕ) (row : ArithRow) → slice_get rows n ≡ Some row
     → flat_map wires_asserted (take (n + 1) rows) ≡ flat_map wires_asserted (take n rows) ++ wires_asserted row
-wires_more rows n row stands =
-    ap (flat_map wires_asserted) (take_more rows n row (slice_get_within rows n row stands) ∙ ap (λ r. take n rows ++ r ∷ []) (get_or_from_slice_get rows n row row stands))
-    ∙ flat_map-append wires_asserted (take n rows) (row ∷ []) ∙ ap (λ l. flat_map wires_asserted (take n rows) ++ l) (append-nil (wires_asserted row))
+wires_more rows n row stands = rows_more wires_asserted rows n row stands
 
 pub met_none : (rows : List ArithRow) (elements : List ℕ) (n number : ℕ) (row : ArithRow) → slice_get rows n ≡ Some row → wires_asserted row ≡ [] → AreMetSoFar rows elements n number
     → AreMetSoFar rows elements (n + 1) number

@@ -1,8 +1,9 @@
 -- What an evaluation answers.
-use Rattle.std.specs.Prelude.{◌≡◌, ◌≢◌, ℕ, ◌≤◌, false, List, [], ◌∷◌, length, take, slice_get, Option, None, Some, All}
+use Rattle.std.specs.Prelude.{◌≡◌, ◌≢◌, ℕ, ◌≤◌, false, List, [], ◌∷◌, flat_map, length, take, slice_get, Some, All}
 use Rattle.zk_model.specs.Field.{IsElement}
-use Rattle.zk_model.specs.Arithmetic.{Arith, IsFirstFailed, SatisfiesElements, asserted, element_of, is_set, wires_asserted}
+use Rattle.zk_model.specs.Arithmetic.{Arith, IsFirstFailed, SatisfiesElements, asserted, element_of, is_set}
 use Rattle.zk_model.specs.declared.ArithRow.{ArithRow}
+use Rattle.zk_model.specs.declared.ArithRow.TheVariants.{Add, Mul, Const, Assert}
 use Rattle.arith_eval.specs.declared.asserts.Unmet.{Unmet}
 use Rattle.arith_eval.specs.declared.fault.ArithEvalFault.{ArithEvalFault}
 use Rattle.arith_eval.specs.declared.fault.ArithEvalFault.TheVariants.{WrongLength, AssertFailed, NoMemory}
@@ -42,11 +43,6 @@ pub record AreFirst (values : List ℕ) (wires : ℕ) (elements : List ℕ) : Ty
 
 -- ---- assertions
 
--- the wire that a gate asserts to be 0, if it does
-abbrev pub IsAssertion : ArithRow → Option ℕ → Type 0
-IsAssertion row None = wires_asserted row ≡ []
-IsAssertion row (Some wire) = wires_asserted row ≡ wire ∷ []
-
 abbrev pub AreZero : List ℕ → List ℕ → Type 0
 AreZero elements wires = All (λ wire. element_of elements wire ≡ 0) wires
 
@@ -57,3 +53,16 @@ pub record IsUnmet (circuit : Arith) (elements : List ℕ) (unmet : Unmet) : Typ
   pub value_is : element_of elements wire ≡ unmet.value
   pub not_zero : unmet.value ≢ 0
   pub before : AreZero elements (take unmet.number (asserted circuit))
+
+-- ---- products
+
+-- the element of the wire that a product sets
+abbrev pub row_products : List ℕ → ArithRow → List ℕ
+row_products elements (Add a b out) = []
+row_products elements (Mul a b out) = element_of elements out ∷ []
+row_products elements (Const value out) = []
+row_products elements (Assert a) = []
+
+-- those of all products, in order
+abbrev pub products_in : List ℕ → List ArithRow → List ℕ
+products_in elements gates = flat_map (row_products elements) gates

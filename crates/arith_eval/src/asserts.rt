@@ -1,7 +1,7 @@
-// The assertions of a circuit.
-ghost use Rattle.std.specs.Prelude.{◌≡◌, ◌≤◌, ◌<◌, ◌^◌, length, IfSome, IfNone, All};
+// The assertions of a circuit, and the elements of its products.
+ghost use Rattle.std.specs.Prelude.{◌≡◌, ◌+◌, ◌≤◌, ◌<◌, ◌^◌, ◌++◌, length, vec_capacity, IfOk, IfErr, OnOk, All};
 ghost use Rattle.zk_model.specs.Arithmetic.{asserted, element_of};
-ghost use Rattle.arith_eval.specs.Answers.{AreZero, IsAssertion, IsUnmet};
+ghost use Rattle.arith_eval.specs.Answers.{AreZero, IsUnmet, products_in};
 
 use arith_reader::{Arith, ArithRow};
 use mersenne_field::Fe;
@@ -13,33 +13,34 @@ pub struct Unmet {
     pub value: Fe,
 }
 
-/// The wire that a gate asserts to be 0, if it does.
-#[inline(always)]
-fn wire_asserted(row: ArithRow) -> Option<u32>
-    ensures { IsAssertion row result }
-{
-    match row {
-        ArithRow::Assert { a } => Some(a),
-        ArithRow::Add { .. } | ArithRow::Mul { .. } | ArithRow::Const { .. } => None,
-    }
-}
-
+/// Appends the elements of all products to those of the inputs, which leave room for them, where all assertions are met.
+///
+/// # Errors
+///
 /// The first assertion that is not met.
-pub fn first_unmet(circuit: &Arith, elements: &[Fe]) -> Option<Unmet>
-    requires { length elements.now ≡ circuit.now.wires }
-    ensures unmet { IfSome result (IsUnmet circuit.now elements.now) }
-    ensures none { IfNone result (AreZero elements.now (asserted circuit.now)) }
+pub fn with_products(circuit: &Arith, elements: &[Fe], inputs: Vec<Fe>) -> Result<Vec<Fe>, Unmet>
+    requires whole { length elements.now ≡ circuit.now.wires }
+    requires room { length inputs.items + length circuit.now.gates ≤ vec_capacity inputs }
+    ensures given { IfOk result (λ given. given.items
+        ≡ inputs.items ++ products_in elements.now circuit.now.gates) }
+    ensures zero { OnOk result (AreZero elements.now (asserted circuit.now)) }
+    ensures unmet { IfErr result (IsUnmet circuit.now elements.now) }
 {
     let _wires = circuit.wires();
+    let mut given = inputs;
     let mut number = 0;
     for i in 0..circuit.gates() {
-        if let Some(a) = wire_asserted(circuit.gate(i)) {
-            let value = elements[a as usize];
-            if value.value() != 0 {
-                return Some(Unmet { number, value });
+        match circuit.gate(i) {
+            ArithRow::Assert { a } => {
+                let value = elements[a as usize];
+                if value.value() != 0 {
+                    return Err(Unmet { number, value });
+                }
+                number += 1;
             }
-            number += 1;
+            ArithRow::Mul { out, .. } => given.push_reserved(elements[out as usize]),
+            ArithRow::Add { .. } | ArithRow::Const { .. } => {}
         }
     }
-    None
+    Ok(given)
 }

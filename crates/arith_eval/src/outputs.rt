@@ -1,10 +1,10 @@
 // The outputs of a circuit.
-ghost use Rattle.std.specs.Prelude.{◌≡◌, length, drop, IfOk, IfErr};
+ghost use Rattle.std.specs.Prelude.{◌≡◌, ◌+◌, ◌≤◌, ◌++◌, length, drop, vec_capacity, IfOk, IfErr};
 ghost use Rattle.zk_model.specs.Arithmetic.{AreWireElements, SatisfiesElements, first_output};
-ghost use Rattle.arith_eval.specs.Answers.{AreOnlyOutputs, IsCause};
+ghost use Rattle.arith_eval.specs.Answers.{AreOnlyOutputs, IsCause, IsLengthCause, products_in};
 ghost use Rattle.arith_eval.specs.declared.fault.ArithEvalFault.TheVariants.{AssertFailed};
 
-use crate::asserts::{Unmet, first_unmet};
+use crate::asserts::{Unmet, with_products};
 use crate::fault::ArithEvalFault;
 use crate::wires::eval_wires;
 use arith_laws::{one_list, unmet_is_unsatisfied};
@@ -26,12 +26,20 @@ pub fn eval(alloc: Global, circuit: &Arith, values: &[Fe]) -> Result<Vec<Fe>, Ar
 {
     one_list();
     let _wires = circuit.wires();
-    let elements = satisfying_wires(alloc, circuit, values)?;
-    let outputs = output_elements(circuit, &elements).to_vec(alloc)?;
+    let satisfied = satisfying_wires(alloc, circuit, values)?;
+    let outputs = output_elements(circuit, &satisfied.elements).to_vec(alloc)?;
     Ok(outputs)
 }
 
-/// The elements of all wires of a circuit at these input elements, which meet all its assertions.
+/// The elements of all wires of a circuit whose assertions are met, and those that its proof is given: of the inputs, and then of the wires
+/// that products set, in order.
+#[derive(Debug, Drop)]
+pub struct Satisfied {
+    pub elements: Vec<Fe>,
+    pub given: Vec<Fe>,
+}
+
+/// The elements of all wires of a circuit at these input elements, which meet all its assertions, and those that its proof is given.
 ///
 /// # Errors
 ///
@@ -40,17 +48,39 @@ pub fn satisfying_wires(
     alloc: Global,
     circuit: &Arith,
     values: &[Fe],
-) -> Result<Vec<Fe>, ArithEvalFault>
-    ensures wires { IfOk result (λ elements. AreWireElements circuit.now values.now elements.items) }
+) -> Result<Satisfied, ArithEvalFault>
+    ensures wires { IfOk result (λ s. AreWireElements circuit.now values.now s.elements.items) }
+    ensures given { IfOk result (λ s. s.given.items
+        ≡ values.now ++ products_in s.elements.items circuit.now.gates) }
     ensures cause { IfErr result (IsCause circuit.now values.now) }
 {
     unmet_is_unsatisfied();
     let _wires = circuit.wires();
+    let inputs = roomy_inputs(alloc, circuit, values)?;
     let elements = eval_wires(alloc, circuit, values)?;
-    if let Some(unmet) = first_unmet(circuit, &elements) {
-        return Err(assert_failed(unmet));
+    match with_products(circuit, &elements, inputs) {
+        Ok(given) => Ok(Satisfied { elements, given }),
+        Err(unmet) => Err(assert_failed(unmet)),
     }
-    Ok(elements)
+}
+
+/// The input elements, with room for one more for each gate: what is read long after them comes before the elements of all wires, which
+/// are soon given up.
+fn roomy_inputs(alloc: Global, circuit: &Arith, values: &[Fe]) -> Result<Vec<Fe>, ArithEvalFault>
+    ensures inputs { IfOk result (λ inputs. inputs.items ≡ values.now) }
+    ensures room { IfOk result (λ inputs.
+        length inputs.items + length circuit.now.gates ≤ vec_capacity inputs) }
+    ensures cause { IfErr result (IsLengthCause circuit.now values.now) }
+{
+    let _wires = circuit.wires();
+    let need = circuit.inputs();
+    let got = values.len();
+    if need != got {
+        return Err(ArithEvalFault::WrongLength { need, got });
+    }
+    let mut inputs = Vec::with_capacity(alloc, need + circuit.gates())?;
+    inputs.extend_from_slice(values)?;
+    Ok(inputs)
 }
 
 /// The elements of the output wires, where all wires have these.

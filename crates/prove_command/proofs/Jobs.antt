@@ -1,5 +1,5 @@
 -- What proves a claim makes a prover's job.
-use Rattle.std.proofs.Common.{◌≡◌, ◌∙◌, ℕ, List, [], Option, take, refl, sym, ap, subst}
+use Rattle.std.proofs.Common.{◌≡◌, ◌∙◌, ℕ, List, [], Option, length, take, refl, sym, ap, subst}
 use Rattle.sha2.specs.Sha256.{sha256}
 use Rattle.zk_model.specs.Arithmetic.{Arith, IsWellFormed, SatisfiesElements}
 use Rattle.zk_model.specs.ArithProgram.{arith_claims, arith_program}
@@ -10,12 +10,13 @@ use Rattle.zk_model.specs.Statement.{Statement, arith_statement}
 use Rattle.zk_port.specs.Files.{Files}
 use Rattle.circuit_laws.proofs.Made.{one_made}
 use Rattle.arith_laws.proofs.Formed.{arith_is_ordered, arith_is_program}
-use Rattle.arith_laws.proofs.Solved.{satisfied_is_solved}
+use Rattle.arith_laws.proofs.Solved.{given_values, satisfied_is_solved}
+use Rattle.arith_eval.proofs.Products.{given_are, given_count}
 use Rattle.wire_auth.specs.Values.{given_made}
 use Rattle.session_core.specs.Jobs.{AreWitnessValues, ProverJob, prover_from}
 use Rattle.session_core.specs.declared.wire_values.WireValues.{WireValues}
-use Rattle.session_core.specs.declared.wire_values.WireValues.TheVariants.{Bits, Elements}
-use Rattle.session_core.proofs.Computed.{elements_prove}
+use Rattle.session_core.specs.declared.wire_values.WireValues.TheVariants.{Bits, Given}
+use Rattle.session_core.proofs.Computed.{made_values}
 use Rattle.session_rehearsal.proofs.Rehearsed.{sized_values}
 use Rattle.file_commands.specs.Stops.{IsProverFileAt}
 use Rattle.prove_command.specs.BitsProofs.{IsBitsJob}
@@ -59,12 +60,12 @@ elements_witness circuit digest outputs inputs statement values given formed sat
 pub is_claim_job : (told : Option Files) (proof : ProofNames) (statement : Statement) (inputs : List ℕ) (wires : WireValues) (file : ProverFile)
     (job : ProverJob) (values : List ℕ) → HasWitness told proof statement inputs wires → job ≡ prover_from statement inputs file
     → AreMade statement.program statement.public inputs values job.given → IsClaimJob told proof job
-is_claim_job told (names.Boolean proof) statement inputs (Elements elements) file job values has is made = absurd has
+is_claim_job told (names.Boolean proof) statement inputs (Given given) file job values has is made = absurd has
 is_claim_job told (names.Boolean proof) statement inputs (Bits bits) file job values has is made =
     subst (IsBitsJob told proof) (sym (is ∙ has.proves file))
     (record { circuit = has.circuit; wires = bits.items; witnessed = has.witnessed; job_is = refl })
 is_claim_job told (names.Arithmetic proof) statement inputs (Bits bits) file job values has is made = absurd has
-is_claim_job told (names.Arithmetic proof) statement inputs (Elements elements) file job values has is made =
+is_claim_job told (names.Arithmetic proof) statement inputs (Given given) file job values has is made =
     let solved = has.1 in
     let found = elements_witness has.0 (sha256 solved.claim.text) solved.outputs inputs statement values job.given solved.claim.says.is.well_formed
     solved.satisfied solved.claim.statement_is made in
@@ -90,21 +91,26 @@ is_prove_job told proof statement said inputs given wires file job has at stated
 -- the claim is there, with what proves it
 pub true_claim : (told : Option Files) (proof : ProofNames) (statement : Statement) (inputs : List ℕ) (wires : WireValues)
     → HasWitness told proof statement inputs wires → IsTrueClaim told proof
-true_claim told (names.Boolean proof) statement inputs (Elements elements) has = absurd has
+true_claim told (names.Boolean proof) statement inputs (Given given) has = absurd has
 true_claim told (names.Boolean proof) statement inputs (Bits bits) has = (has.circuit, statement, bits.items, has.witnessed)
 true_claim told (names.Arithmetic proof) statement inputs (Bits bits) has = absurd has
-true_claim told (names.Arithmetic proof) statement inputs (Elements elements) has = (has.0, statement, inputs, has.1)
+true_claim told (names.Arithmetic proof) statement inputs (Given given) has = (has.0, statement, inputs, has.1)
 
 -- the values of all wires make the given values of a prover with such inputs
 pub witness_values : (told : Option Files) (proof : ProofNames) (statement : Statement) (inputs : List ℕ) (wires : WireValues) (file : ProverFile)
     → HasWitness told proof statement inputs wires
     → AreWitnessValues (given_made statement.program statement.public inputs) statement.program wires
-witness_values told (names.Boolean proof) statement inputs (Elements elements) file has = absurd has
+witness_values told (names.Boolean proof) statement inputs (Given given) file has = absurd has
 witness_values told (names.Boolean proof) statement inputs (Bits bits) file has = record {
   whole = has.witnessed.wires_are.whole ∙ sym (ap (λ (s : Statement). s.program.wires) has.witnessed.claim.statement_is);
   made = ap (λ (job : ProverJob). job.given) (has.proves file);
 }
 witness_values told (names.Arithmetic proof) statement inputs (Bits bits) file has = absurd has
-witness_values told (names.Arithmetic proof) statement inputs (Elements elements) file has =
-    subst (λ (s : Statement). AreWitnessValues (given_made s.program s.public inputs) s.program (Elements elements)) (sym has.1.claim.statement_is)
-    (record { whole = has.2.whole; made = elements_prove has.0 inputs elements.items has.1.claim.says.is.well_formed has.2 })
+witness_values told (names.Arithmetic proof) statement inputs (Given given) file has =
+    let formed = has.1.claim.says.is.well_formed in
+    let computed = has.2.1 in
+    let are : given.items ≡ given_values has.0 inputs has.2.0 = has.2.2 ∙ given_are has.0 inputs has.2.0 computed in
+    subst (λ (s : Statement). AreWitnessValues (given_made s.program s.public inputs) s.program (Given given)) (sym has.1.claim.statement_is) (record {
+      whole = ap length are ∙ given_count has.0 inputs has.2.0 formed computed;
+      made = made_values has.0 inputs has.2.0 formed computed ∙ sym are;
+    })

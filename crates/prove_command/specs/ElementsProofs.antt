@@ -1,7 +1,7 @@
 -- Proofs that some elements make an arithmetic circuit give outputs and meet its assertions.
-use Rattle.std.specs.Prelude.{◌≡◌, ◌≢◌, ◌⊎◌, ◌+◌, ℕ, List, take, get_or, length, Option}
-use Rattle.arith_eval.specs.Answers.{AreOnlyOutputs}
-use Rattle.zk_model.specs.Arithmetic.{Arith, IsFirstFailed, SatisfiesElements}
+use Rattle.std.specs.Prelude.{◌≡◌, ◌≢◌, ◌⊎◌, ◌+◌, ◌++◌, ℕ, List, take, get_or, length, Option}
+use Rattle.arith_eval.specs.Answers.{AreOnlyOutputs, products_in}
+use Rattle.zk_model.specs.Arithmetic.{Arith, AreComputed, IsFirstFailed, SatisfiesElements}
 use Rattle.zk_model.specs.HonestProver.{IsWitness}
 use Rattle.zk_model.specs.Statement.{Statement}
 use Rattle.zk_port.specs.Files.{Files}
@@ -20,6 +20,11 @@ pub record IsSolved (told : Option Files) (proof : ElementsProof) (circuit : Ari
   pub claim : IsArithClaim told proof.circuit proof.outputs circuit outputs statement
   pub values : IsElementsFile told proof.values inputs
   pub satisfied : SatisfiesElements circuit inputs outputs
+
+-- the inputs, and then the elements that the circuit computes of them on the wires that products set
+abbrev pub AreGivenValues : Arith → List ℕ → List ℕ → Type 0
+AreGivenValues circuit inputs given =
+    (elements : List ℕ) × AreComputed circuit inputs elements × (given ≡ inputs ++ products_in elements circuit.gates)
 
 -- a prover is to prove the claim by the elements: there are values of all wires then, which are what proves the statement
 pub record IsElementsJob (told : Option Files) (proof : ElementsProof) (job : ProverJob) : Type 0 where

@@ -2,7 +2,7 @@
 -- promises.
 use Rattle.std.specs.Prelude.{◌≡◌, ◌≢◌, ◌⊎◌, ◌==◌, ◌+◌, ◌<◌, ◌≤◌, ◌++◌, ℕ, List, map, codes, Bool, Option, None, Some, IfSome, if◌then◌else◌}
 use Rattle.std.specs.Fmt.{decimal}
-use Rattle.zk_model.specs.Arithmetic.{Arith, AreComputed}
+use Rattle.zk_model.specs.Arithmetic.{Arith}
 use Rattle.zk_model.specs.Bits.{from_bit}
 use Rattle.zk_model.specs.Circuit.{Circuit}
 use Rattle.lease_journal.specs.Twins.{HoldsTwin}
@@ -23,7 +23,7 @@ use Rattle.claim_store.specs.Claims.{AreInUse, SaysClaims, first_met}
 use Rattle.dealer_files.specs.Faults.{IsDealtFile}
 use Rattle.session_core.specs.Jobs.{ProverJob}
 use Rattle.session_core.specs.declared.wire_values.WireValues.{WireValues}
-use Rattle.session_core.specs.declared.wire_values.WireValues.TheVariants.{Bits, Elements}
+use Rattle.session_core.specs.declared.wire_values.WireValues.TheVariants.{Bits, Given}
 use Rattle.session_prover.specs.Completing.{HasHonestVerifier}
 use Rattle.session_prover.specs.Notes.{IsGrantRead}
 use Rattle.session_prover.specs.Sessions.{IsProverNote}
@@ -38,7 +38,7 @@ use Rattle.file_commands.specs.Effects.{ShelfChange, DoorChange, SinkFailed, Eff
 use Rattle.file_commands.specs.Stops.{ConnectStop, PrintsMade, SaysStop, IsOfStop, WritesAll, HasCircuit, HasText, FileStop, IsProverFileAt}
 use Rattle.file_commands.specs.declared.refusal.Refusal.{Refusal}
 use Rattle.prove_command.specs.BitsProofs.{BitsProofStop, HasWires, IsBitsJob, IsSatisfied, IsWitnessed}
-use Rattle.prove_command.specs.ElementsProofs.{ElementsProofStop, HasSolution, IsElementsJob, IsSolved}
+use Rattle.prove_command.specs.ElementsProofs.{AreGivenValues, ElementsProofStop, HasSolution, IsElementsJob, IsSolved}
 use Rattle.prove_command.specs.Proofs.{Proof}
 use Rattle.prove_command.specs.declared.proof.ProofNames.{ProofNames}
 use Rattle.prove_command.specs.declared.proof.ProofNames.TheVariants as names
@@ -51,11 +51,11 @@ IsWitnessName (names.Arithmetic proof) name = (name ≡ proof.circuit) ⊎ (name
 abbrev pub IsProveName : Proof → List ℕ → Type 0
 IsProveName proof name = IsWitnessName proof.names name ⊎ (name ≡ proof.file)
 
--- where a shelf tells, this is the claim, and with these values of its inputs a prover proves it; and these are the values of all wires then
+-- where a shelf tells, this is the claim, and with these values of its inputs a prover proves it; and this makes the given values then
 abbrev pub HasWitness : Option Files → ProofNames → Statement → List ℕ → WireValues → Type 0
 HasWitness told (names.Boolean proof) statement inputs (Bits bits) = HasWires told proof statement inputs bits.items
-HasWitness told (names.Arithmetic proof) statement inputs (Elements elements) =
-    (circuit : Arith) × IsSolved told proof circuit statement inputs × AreComputed circuit inputs elements.items
+HasWitness told (names.Arithmetic proof) statement inputs (Given given) =
+    (circuit : Arith) × IsSolved told proof circuit statement inputs × AreGivenValues circuit inputs given.items
 HasWitness told proof statement inputs wires = ⊥
 
 -- there is a claim, and what proves it

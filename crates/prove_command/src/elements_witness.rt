@@ -1,10 +1,10 @@
 // An arithmetic circuit, and the elements that prove what is claimed of it.
 ghost use Rattle.std.specs.Prelude.{◌≡◌, ℕ, List, IfOk, IfErr, OnOk, None, IfSome, length};
 ghost use Rattle.arith_eval.specs.Answers.{IsCause};
-ghost use Rattle.zk_model.specs.Arithmetic.{AreComputed, SatisfiesElements};
+ghost use Rattle.zk_model.specs.Arithmetic.{SatisfiesElements};
 ghost use Rattle.zk_port.specs.Changes.{change};
 ghost use Rattle.file_commands.specs.Effects.{OnlyLoads};
-ghost use Rattle.prove_command.specs.ElementsProofs.{ElementDiffersFirst, ElementsProofStop, ValuesStop};
+ghost use Rattle.prove_command.specs.ElementsProofs.{AreGivenValues, ElementDiffersFirst, ElementsProofStop, ValuesStop};
 ghost use Rattle.prove_command.specs.ProveRuns.{HasWitness, IsWitnessName};
 ghost use Rattle.prove_command.specs.declared.proof.ProofNames.TheVariants as names;
 
@@ -51,7 +51,7 @@ fn eval_stop(circuit: &Arith, values: &[Fe], fault: ArithEvalFault) -> Refusal
     }
 }
 
-/// The elements of all wires, where values make a circuit give these outputs, and meet its assertions.
+/// The given values of a circuit's program, where values make the circuit give these outputs, and meet its assertions.
 fn check_values(
     alloc: Global,
     circuit: &Arith,
@@ -60,18 +60,18 @@ fn check_values(
 ) -> Result<Vec<Fe>, Refusal>
     requires values { length values.now ≡ circuit.now.inputs }
     requires outputs { length outputs.now ≡ circuit.now.outputs }
-    ensures computed { IfOk result (λ elements. AreComputed circuit.now values.now elements.items) }
+    ensures given { IfOk result (λ given. AreGivenValues circuit.now values.now given.items) }
     ensures satisfied { OnOk result (SatisfiesElements circuit.now values.now outputs.now) }
     ensures stop { IfErr result (ValuesStop circuit.now values.now outputs.now) }
 {
     one_list();
     let _wires = circuit.wires();
-    let elements = match satisfying_wires(alloc, circuit, values) {
-        Ok(elements) => elements,
+    let satisfied = match satisfying_wires(alloc, circuit, values) {
+        Ok(satisfied) => satisfied,
         Err(fault) => return Err(eval_stop(circuit, values, fault)),
     };
-    match first_difference(output_elements(circuit, &elements), outputs) {
-        None => Ok(elements),
+    match first_difference(output_elements(circuit, &satisfied.elements), outputs) {
+        None => Ok(satisfied.given),
         Some(output) => Err(Refusal::Unsatisfied {
             output: output as u64,
         }),
@@ -103,12 +103,12 @@ pub fn load_solution<R: Threads + Sync, F: Shelf>(
     let outputs_name = proof.outputs();
     let claimed = read.circuit.outputs() as u64;
     let outputs = load_elements(alloc, shelf, outputs_name, claimed)?;
-    let elements = check_values(alloc, &read.circuit, &inputs, &outputs)?;
+    let given = check_values(alloc, &read.circuit, &inputs, &outputs)?;
     let DigestedArith { circuit, digest } = read;
     let claim = CircuitClaim::of_arith(alloc, circuit, digest, &outputs)?;
     Ok(Witness {
         claim,
         inputs,
-        wires: WireValues::Elements(elements),
+        wires: WireValues::Given(given),
     })
 }

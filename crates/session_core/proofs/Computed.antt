@@ -7,7 +7,7 @@ use Rattle.std.proofs.lemmas.List.{ext_get_or, get_or-take}
 use Rattle.std.proofs.lemmas.List.FromFn.{get_or-map-range_with_len, length-map-range_with_len}
 use Rattle.zk_model.specs.Field.{◌*ₚ◌}
 use Rattle.zk_model.specs.Program.{Program, AreMade}
-use Rattle.zk_model.specs.Arithmetic.{element_of}
+use Rattle.zk_model.specs.Arithmetic.{Arith, AreComputed, IsWellFormed, element_of}
 use Rattle.zk_model.specs.ArithProgram.{arith_program, products_from}
 use Rattle.zk_model.specs.declared.ArithRow.{ArithRow}
 use Rattle.zk_model.specs.declared.ArithRow.TheVariants.{Add, Mul, Const, Assert}
@@ -33,11 +33,12 @@ products_are program elements c (Mul a b out ∷ gates) behind =
 products_are program elements c (Const value out ∷ gates) behind = products_are program elements c gates behind
 products_are program elements c (Assert a ∷ gates) behind = products_are program elements c gates behind
 
-pub elements_prove : ElementsProve
-elements_prove circuit inputs elements formed computed =
+-- the given values that inputs make are the inputs, and then the products of what the circuit computes
+pub made_values : (circuit : Arith) (inputs elements : List ℕ) → IsWellFormed circuit → AreComputed circuit inputs elements
+    → given_made (arith_program circuit) [] inputs ≡ given_values circuit inputs elements
+made_values circuit inputs elements formed computed =
     one_made program [] inputs (wires_made program [] inputs) (given_made program [] inputs) elements (given_values circuit inputs elements)
     (arith_is_program circuit formed) (arith_is_ordered circuit formed) (made_exist program [] inputs held refl long) made
-    ∙ sym same
   where
     program : Program
     program = arith_program circuit
@@ -62,6 +63,18 @@ elements_prove circuit inputs elements formed computed =
       others = λ k d below low. solved.multiplied k d below;
     }
 
+-- which are those that the elements of all wires make
+pub from_values : (circuit : Arith) (inputs elements : List ℕ) → IsWellFormed circuit → AreComputed circuit inputs elements
+    → given_from (arith_program circuit) elements ≡ given_values circuit inputs elements
+from_values circuit inputs elements formed computed =
+    λ i. inputs_are i ++ products_are program elements circuit.inputs circuit.gates (omega arith) i
+  where
+    program : Program
+    program = arith_program circuit
+
+    long : length inputs ≡ circuit.inputs
+    long = ap length (sym computed.first) ∙ length-take-le circuit.inputs elements (omega (arith, computed.whole, formed.inputs_within))
+
     unchecked_values : List ℕ
     unchecked_values = map (λ i. slice_index elements (program.public + i)) (range_with_len 0 (unchecked program))
 
@@ -78,5 +91,6 @@ elements_prove circuit inputs elements formed computed =
         ∙ sym (get_or-take circuit.inputs elements i 0 (omega (arith, below, counted)))
         ∙ ap (λ (l : List ℕ). get_or l i 0) computed.first)
 
-    same : given_from program elements ≡ given_values circuit inputs elements
-    same = λ i. inputs_are i ++ products_are program elements circuit.inputs circuit.gates (omega arith) i
+pub elements_prove : ElementsProve
+elements_prove circuit inputs elements formed computed =
+    made_values circuit inputs elements formed computed ∙ sym (from_values circuit inputs elements formed computed)

@@ -16,7 +16,7 @@ use Rattle.zk_model.specs.Arithmetic.{IsWellFormed as IsWellFormedArith}
 use Rattle.zk_model.specs.ArithProgram.{arith_program}
 use Rattle.wire_auth.specs.Values.{given_from, given_made}
 use Rattle.session_core.specs.declared.wire_values.WireValues.{WireValues}
-use Rattle.session_core.specs.declared.wire_values.WireValues.TheVariants.{Bits, Elements}
+use Rattle.session_core.specs.declared.wire_values.WireValues.TheVariants.{Bits, Given}
 use Rattle.session_core.specs.declared.verifier_job.TooLarge.{TooLarge}
 use Rattle.zk_model.specs.declared.limits.TheConstants.{MAX_SECTION_LENGTH, MAX_STATEMENTS, MAX_UNITS}
 
@@ -121,19 +121,19 @@ abbrev pub prover_of : Statement → List Bool → ProverFile → ProverJob
 prover_of statement bits file =
     record { statement = statement; file = file; given = bits_of_products statement.program.products bits }
 
--- how many wires have these values
-abbrev pub wires_in : WireValues → ℕ
-wires_in (Bits bits) = length bits.items
-wires_in (Elements elements) = length elements.items
+-- they are as many as a program has wires, or given values
+abbrev pub AreFor : Program → WireValues → Type 0
+AreFor program (Bits bits) = length bits.items ≡ program.wires
+AreFor program (Given given) = length given.items ≡ program.givens
 
 -- the given values that they make
 abbrev pub given_by : Program → WireValues → List ℕ
 given_by program (Bits bits) = bits_of_products program.products bits.items
-given_by program (Elements elements) = given_from program elements.items
+given_by program (Given given) = given.items
 
--- values of all wires of a program, that make these given values
+-- values of wires of a program, that make these given values
 pub record AreWitnessValues (given : List ℕ) (program : Program) (values : WireValues) : Type 0 where
-  pub whole : wires_in values ≡ program.wires
+  pub whole : AreFor program values
   pub made : given ≡ given_by program values
 
 -- The first is the second for each claim about a circuit, where the private inputs are bits and the others the bits that the circuit

@@ -2,7 +2,7 @@
 //! QuickSilver, ACM CCS 2021).
 //!
 //! `statement` has what a session is about, `circuit_claim` the claim that some inputs make a circuit, Boolean or arithmetic, give outputs, `hellos` whether a
-//! hello is for it. `prover_job` and `verifier_job` have what either end is to do, and its turns as calls, `wire_values` what a prover may know of all wires, `verifier_jobs` what a
+//! hello is for it. `prover_job` and `verifier_job` have what either end is to do, and its turns as calls, `wire_values` what may make its given values, `verifier_jobs` what a
 //! verifier is to do of several statements; `prover_core` and `verifier_core` take frames one by one and take these turns. `extending`
 //! has the asks, replies, pairs and keys of all units of a grant, `round_frames` their frames, `workers` what several threads can share,
 //! `left_sides` what a verifier has before the sums come, `judgement` what the checks found, `fault` why a core stops.

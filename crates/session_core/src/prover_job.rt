@@ -15,7 +15,7 @@ ghost use Rattle.zk_model.specs.declared.limits.TheConstants.{MAX_DEALT_UNITS, M
 
 use crate::statement::Statement;
 use crate::verifier_job::units_for;
-use crate::wire_values::{WireValues, known_corrections};
+use crate::wire_values::{WireValues, known_corrections, taken_corrections};
 use crate::workers::Workers;
 use dealer_files::ProverFile;
 use mersenne_field::{Fe, Pair};
@@ -25,8 +25,8 @@ use std::marker::Model;
 use wire_auth::{ProverWalk, walk_corrections};
 use zk_model::{MAX_SECTION_LENGTH, MAX_UNITS, Span};
 
-/// What a prover is to do: its statement and its file, and the values of its private inputs; and values of all wires that make its
-/// given values, where they are known.
+/// What a prover is to do: its statement and its file, and the values of its private inputs; and what makes its given values, where it is
+/// known.
 #[derive(Debug, Drop)]
 pub struct ProverJob<'a> {
     statement: &'a Statement<'a>,
@@ -111,8 +111,8 @@ impl<'a> ProverJob<'a> {
         }
     }
 
-    /// A job with the values of the private inputs, and values of all wires that make its given values: it makes its corrections of these,
-    /// without a walk along the program.
+    /// A job with the values of the private inputs, and what makes its given values: it makes its corrections of these, without a walk along
+    /// the program.
     pub fn with_wires(
         statement: &'a Statement<'a>,
         file: &'a ProverFile,
@@ -183,8 +183,8 @@ impl<'a> ProverJob<'a> {
         self.file.pairs(units_of(grant))
     }
 
-    /// The pairs of a session's correlations are answered by the corrections that make them those of the given values: of the values of all
-    /// wires, where these are known, or else of a walk along the program.
+    /// The pairs of a session's correlations are answered by the corrections that make them those of the given values: of what makes these,
+    /// where it is known, or else of a walk along the program.
     ///
     /// # Errors
     ///
@@ -223,7 +223,7 @@ impl<'a> ProverJob<'a> {
         Ok(corrections)
     }
 
-    /// Does so of values of all wires.
+    /// Does so of what makes the given values.
     fn commit_known(
         &self,
         alloc: Global,
@@ -239,10 +239,33 @@ impl<'a> ProverJob<'a> {
         ensures one_each { IfOk result (λ d. length d.items ≡ self.now.statement.program.givens) }
     {
         let program = self.statement.program();
-        let public = self.statement.public();
         let _givens = program.givens();
-        let _count = public.len();
         let corrections = known_corrections(alloc, program, wires, pairs)?;
+        Ok(corrections)
+    }
+
+    /// The answer of `commit` of what makes the given values, which is given up: they leave their places to the corrections.
+    ///
+    /// # Errors
+    ///
+    /// Only where memory runs out.
+    pub fn commit_with(
+        &self,
+        alloc: Global,
+        grant: Grant,
+        pairs: &[Pair],
+        wires: WireValues,
+    ) -> Result<Vec<Fe>, AllocError>
+        requires at_least_one { 1 ≤ grant.section_length }
+        requires enough { AreEnough self.now grant.section_length pairs.now }
+        requires wires { AreWitnessValues self.now.given self.now.statement.program wires }
+        ensures fixed { IfOk result (λ d. IsFixed self.now.statement self.now.given
+            pairs.now d.items (pairs_fixed self.now pairs.now)) }
+        ensures one_each { IfOk result (λ d. length d.items ≡ self.now.statement.program.givens) }
+    {
+        let program = self.statement.program();
+        let _givens = program.givens();
+        let corrections = taken_corrections(alloc, program, wires, pairs)?;
         Ok(corrections)
     }
 

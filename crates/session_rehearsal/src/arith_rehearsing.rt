@@ -10,7 +10,7 @@ ghost use Rattle.session_rehearsal.specs.Rehearsals.{AboutCause, ArithRehearseCa
 use crate::elements::Elements;
 use crate::rehearsal::{ArithRehearseFault, Rehearsal, RehearseFault};
 use crate::rehearsing::rehearse_about;
-use arith_eval::{ArithEvalFault, output_elements, satisfying_wires};
+use arith_eval::{ArithEvalFault, Satisfied, output_elements, satisfying_wires};
 use arith_laws::one_list;
 use arith_reader::Arith;
 use mersenne_field::Fe;
@@ -75,16 +75,18 @@ pub fn rehearse_arith<R: Threads + Sync>(
     computed_elements_prove();
     one_list();
     let _wires = circuit.wires();
-    let elements = match satisfying_wires(alloc, &circuit, values) {
-        Ok(elements) => elements,
+    let Satisfied { elements, given } = match satisfying_wires(alloc, &circuit, values) {
+        Ok(satisfied) => satisfied,
         Err(fault) => return Err(eval_stop(fault)),
     };
     let outputs = Elements::copied(alloc, output_elements(&circuit, &elements))?;
+    // The session's lists may take its place.
+    drop(elements);
     let claim = CircuitClaim::of_arith(alloc, circuit, [0; 32], outputs.as_slice())?;
     let statement = claim.statement();
-    let wires = WireValues::Elements(elements);
+    let wires = WireValues::Given(given);
     match rehearse_about(
-        rt, alloc, &statement, values, &wires, outputs, kind, section, seed,
+        rt, alloc, &statement, values, wires, outputs, kind, section, seed,
     ) {
         Ok(rehearsal) => Ok(rehearsal),
         Err(fault) => Err(about_stop(fault)),

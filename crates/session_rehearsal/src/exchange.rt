@@ -67,21 +67,21 @@ pub(crate) struct OpenedSession {
     pub(crate) opened: Opened,
 }
 
-/// A session of both ends over all units of their files. The prover's file is given up once it has answered the challenge. All wires have
-/// these values, at these inputs.
+/// A session of both ends over all units of their files. The prover's file is given up once it has answered the challenge, and what makes its
+/// given values, at these inputs, once it has answered the grant.
 pub(crate) fn run_session<R: Threads + Sync>(
     rt: &R,
     alloc: Global,
     statement: &Statement<'_>,
     inputs: &[Fe],
-    wires: &WireValues,
+    wires: WireValues,
     prover_file: ProverFile,
     verifier_file: &VerifierFile,
     section: u32,
 ) -> Result<SessionValues, AllocError>
     requires inputs { length inputs.now ≡ statement.now.program.inputs }
     requires wires { AreWitnessValues
-        (given_made statement.now.program statement.now.public inputs.now) statement.now.program wires.now }
+        (given_made statement.now.program statement.now.public inputs.now) statement.now.program wires }
     requires dealt { AreDealt prover_file verifier_file.now }
     requires granted { IsGrant prover_file.params statement.now.program
         (whole_grant prover_file.params.total section) }
@@ -103,13 +103,13 @@ fn answer<R: Threads + Sync>(
     alloc: Global,
     statement: &Statement<'_>,
     inputs: &[Fe],
-    wires: &WireValues,
+    wires: WireValues,
     prover_file: &ProverFile,
     verifier: &VerifierJob<'_>,
 ) -> Result<OpenedSession, AllocError>
     requires inputs { length inputs.now ≡ statement.now.program.inputs }
     requires wires { AreWitnessValues
-        (given_made statement.now.program statement.now.public inputs.now) statement.now.program wires.now }
+        (given_made statement.now.program statement.now.public inputs.now) statement.now.program wires }
     requires stated { statement.now ≡ verifier.now.task.statement }
     requires dealt { AreDealt prover_file.now verifier.now.task.file }
     requires within { units_of_job verifier.now ≤ verifier.now.task.file.params.total }
@@ -117,10 +117,10 @@ fn answer<R: Threads + Sync>(
         (IsAnswered (prover_from statement.now inputs.now prover_file.now) verifier.now) }
     ensures counted { IfOk result (IsCounted verifier.now) }
 {
-    let prover = ProverJob::with_wires(statement, prover_file, inputs, wires);
+    let prover = ProverJob::new(statement, prover_file, inputs);
     let grant = verifier.grant(0);
     let established = establish(rt, alloc, &prover, verifier, grant)?;
-    let answered = open(rt, alloc, &prover, verifier, grant, established)?;
+    let answered = open(rt, alloc, &prover, verifier, grant, established, wires)?;
     Ok(answered)
 }
 
@@ -216,6 +216,7 @@ fn open<'p, 'v, R: Threads + Sync>(
     verifier: &VerifierJob<'v>,
     grant: Grant,
     established: Correlated<'p, 'v>,
+    wires: WireValues,
 ) -> Result<OpenedSession, AllocError>
     requires stated { prover.now.statement ≡ verifier.now.task.statement }
     requires dealt { AreDealt prover.now.file verifier.now.task.file }
@@ -227,6 +228,7 @@ fn open<'p, 'v, R: Threads + Sync>(
         ≡ grant.count * correlations_per_unit prover.now.file.params }
     requires keys { HoldsKeys verifier.now 0 (items_in established.keys) }
     requires within { units_of_job verifier.now ≤ verifier.now.task.file.params.total }
+    requires wires { AreWitnessValues prover.now.given prover.now.statement.program wires }
     ensures answered { IfOk result (IsAnswered prover.now verifier.now) }
     ensures counted { IfOk result (IsCounted verifier.now) }
 {
@@ -239,7 +241,7 @@ fn open<'p, 'v, R: Threads + Sync>(
         keys,
     } = established;
     let seen = pairs.as_slice();
-    let corrections = prover.commit(alloc, grant, seen)?;
+    let corrections = prover.commit_with(alloc, grant, seen, wires)?;
     let challenge = verifier.challenge(0);
     let held = keys.as_slice();
     let walked = both_walks(

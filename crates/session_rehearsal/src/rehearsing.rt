@@ -56,7 +56,7 @@ fn exchange_dealt<R: Threads + Sync>(
     alloc: Global,
     statement: &Statement<'_>,
     inputs: &[Fe],
-    wires: &WireValues,
+    wires: WireValues,
     kind: Kind,
     section: u32,
     units: u64,
@@ -66,7 +66,7 @@ fn exchange_dealt<R: Threads + Sync>(
     requires at_most { section ≤ MAX_SECTION_LENGTH }
     requires inputs { length inputs.now ≡ statement.now.program.inputs }
     requires wires { AreWitnessValues
-        (given_made statement.now.program statement.now.public inputs.now) statement.now.program wires.now }
+        (given_made statement.now.program statement.now.public inputs.now) statement.now.program wires }
     requires units { units
         ≡ units_for (rehearsed_params kind 0) (correlations_needed statement.now.program section) }
     requires units_some { 1 ≤ units }
@@ -88,13 +88,13 @@ fn exchange_dealt<R: Threads + Sync>(
 }
 
 /// A rehearsal about a statement, whose prover has these values of its inputs: the seed's files of this kind, as many units as the session
-/// takes, and both ends over a log. All wires have the values that are given beside them.
+/// takes, and both ends over a log. What makes its given values comes beside them.
 pub(crate) fn rehearse_about<R: Threads + Sync, O: Drop>(
     rt: &R,
     alloc: Global,
     statement: &Statement<'_>,
     inputs: &[Fe],
-    wires: &WireValues,
+    wires: WireValues,
     outputs: O,
     kind: Kind,
     section: u32,
@@ -104,7 +104,7 @@ pub(crate) fn rehearse_about<R: Threads + Sync, O: Drop>(
     requires at_most { section ≤ MAX_SECTION_LENGTH }
     requires inputs { length inputs.now ≡ statement.now.program.inputs }
     requires wires { AreWitnessValues
-        (given_made statement.now.program statement.now.public inputs.now) statement.now.program wires.now }
+        (given_made statement.now.program statement.now.public inputs.now) statement.now.program wires }
     ensures outputs { IfOk result (λ r. r.outputs ≡ outputs) }
     ensures done { IfOk result (λ r. (wires given : List ℕ)
         → IsWitness statement.now inputs.now wires given
@@ -196,7 +196,7 @@ pub fn rehearse<R: Threads + Sync>(
     let statement = claim.statement();
     let wires = WireValues::Bits(wires);
     let rehearsal = rehearse_about(
-        rt, alloc, &statement, &inputs, &wires, outputs, kind, section, seed,
+        rt, alloc, &statement, &inputs, wires, outputs, kind, section, seed,
     )?;
     Ok(rehearsal)
 }

@@ -20,7 +20,6 @@ use Rattle.wire_auth.specs.Walks.{side_made}
 use Rattle.wire_auth.proofs.BothWalks.{values_made, macs_made}
 use Rattle.wire_auth.proofs.Joined.{joined_is_corrected, are_pairs}
 use Rattle.wire_auth.proofs.Lengths.{length-honest_corrections}
-use Rattle.wire_auth.proofs.Making.{length-given_from}
 
 -- one more of the given values is an element
 pub one_more : (P : ℕ → Type 0) (n : ℕ) → ((k : ℕ) → k < n → P k) → P n → (k : ℕ) → k < n + 1 → P k

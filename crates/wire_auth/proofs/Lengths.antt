@@ -11,7 +11,7 @@ length-honest_corrections given pairs enough =
     let zipped = length-zip given pairs in
     length-map (zip given pairs) (λ q. q.0 -ₚ q.1.x) ∙ omega (arith, zipped)
 
-correction_at : (values : List ℕ) (dealt : List Pair) (i : ℕ) (pair : Pair) → i < length values → i < length dealt
+pub correction_at : (values : List ℕ) (dealt : List Pair) (i : ℕ) (pair : Pair) → i < length values → i < length dealt
     → get_or (honest_corrections values dealt) i 0 ≡ get_or values i 0 -ₚ (get_or dealt i pair).x
 correction_at [] dealt i pair below within = elim below [ ]
 correction_at (x ∷ values) [] i pair below within = elim within [ ]

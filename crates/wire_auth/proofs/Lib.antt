@@ -1,3 +1,4 @@
+pub mod InPlace
 pub mod Lengths
 pub mod Joined
 pub mod Setting

@@ -39,7 +39,7 @@ fn given_at(program: &FieldProgram, values: &[Fe], i: usize) -> Fe
 /// # Errors
 ///
 /// Only where memory runs out.
-pub fn value_corrections(
+pub(crate) fn value_corrections(
     alloc: Global,
     program: &FieldProgram,
     values: &[Fe],
@@ -58,6 +58,22 @@ pub fn value_corrections(
         corrections.push(given_at(program, values, i) - pair.x)?;
     }
     Ok(corrections)
+}
+
+/// The corrections that turn dealt pairs into those of these given values, each in the place of its value: the value less the dealt one.
+pub fn given_corrections(given: Vec<Fe>, dealt: &[Pair]) -> Vec<Fe>
+    requires { length given.items ≤ length dealt.now }
+    ensures corrections { result.items ≡ honest_corrections given.items dealt.now }
+    ensures one_each { length result.items ≡ length given.items }
+    ensures elements { All IsElement given.items }
+{
+    let mut corrections = given;
+    for i in 0..corrections.len() {
+        let value = known(corrections[i]);
+        let pair = dealt[i];
+        corrections[i] = value - pair.x;
+    }
+    corrections
 }
 
 /// Meets the next product of a walk over values, and says its given value.

@@ -22,7 +22,7 @@ mod values;
 mod verifier_walk;
 mod walking;
 
-pub use corrections::{bit_corrections, value_corrections, walk_corrections};
+pub use corrections::{bit_corrections, given_corrections, walk_corrections};
 pub use correlations::Correlations;
 pub use keys::VerifierWires;
 pub use pairs::ProverWires;

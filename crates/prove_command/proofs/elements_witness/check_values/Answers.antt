@@ -9,8 +9,8 @@ returns-in-Err-clause-stop c = c.eval_stop.ensures c.args.outputs.now
 pub returns-in-Some-clause-stop : goal.returns-in-Some-clause-stop
 returns-in-Some-clause-stop c =
     let circuit = c.args.circuit.now in
-    let outputs : List ℕ = drop (first_output circuit) c.in-Ok.elements.items in
-    let gives : SatisfiesElements circuit c.args.values.now outputs = (c.in-Ok.elements.items, c.in-Ok.ensures.wires, refl) in
+    let outputs : List ℕ = drop (first_output circuit) c.in-Ok.satisfied.elements.items in
+    let gives : SatisfiesElements circuit c.args.values.now outputs = (c.in-Ok.satisfied.elements.items, c.in-Ok.ensures.wires, refl) in
     inr (record {
       outputs = outputs;
       gives = gives;

@@ -1,19 +1,19 @@
 use Rattle.std.proofs.Common.{◌∙◌, ℕ, List, inr, subst}
-use Rattle.zk_model.specs.Arithmetic.{AreComputed, SatisfiesElements}
+use Rattle.zk_model.specs.Arithmetic.{SatisfiesElements}
 use Rattle.zk_model.specs.Statement.{arith_statement}
 use Rattle.zk_port.specs.Shelves.{ShelfState}
 use Rattle.frame_link.proofs.LineLemmas.{fails_at}
 use Rattle.claim_files.specs.ArithFiles.{HasArithText, IsElementsFile}
-use Rattle.prove_command.specs.ElementsProofs.{ValuesStop}
+use Rattle.prove_command.specs.ElementsProofs.{AreGivenValues, ValuesStop}
 use Rattle.prove_command.proofs.elements_witness.load_solution.Goals as goal
 
-pub returns-in_err-elements-clause-stop : goal.returns-in_err-elements-clause-stop
-returns-in_err-elements-clause-stop g c =
+pub returns-in_err-given-clause-stop : goal.returns-in_err-given-clause-stop
+returns-in_err-given-clause-stop g c =
     let told = (g.F.Shelf.state c.args.shelf.now).told in
     let circuit = c.in_ok-read.read.circuit in
-    let why = c.in_err-elements.field-0.0 in
+    let why = c.in_err-given.field-0.0 in
     let text = subst (λ (name : List ℕ). HasArithText told name circuit c.in_ok-read.read.digest) c.circuit-name.ensures c.in_ok-read.ensures.file in
-    fails_at _ c.from_residual-in_err-elements.result why c.from_residual-in_err-elements.ensures.1 (inr (record {
+    fails_at _ c.from_residual-in_err-given.result why c.from_residual-in_err-given.ensures.1 (inr (record {
       circuit = circuit;
       file = record { text = text.text; loaded = text.loaded; says = text.says.0 };
       is = inr (record {
@@ -27,7 +27,7 @@ returns-in_err-elements-clause-stop g c =
               (λ i. ((c.in_ok-inputs.ensures.quiet ∙ c.in_ok-read.ensures.quiet) i, c.outputs-outputs_name.ensures i)) c.in_ok-outputs.ensures.elements;
           counted = c.in_ok-outputs.ensures.count ∙ c.outputs-claimed.ensures;
           is = subst (λ (q : List ℕ × List ℕ). ValuesStop circuit q.0 q.1 why) (λ i. (c.deref.ensures.value i, c.deref-2.ensures.value i))
-              c.in_err-elements.ensures.stop;
+              c.in_err-given.ensures.stop;
         });
       });
     }))
@@ -54,7 +54,7 @@ returns-clause-witness g c =
         values = subst (λ (q : ShelfState × List ℕ). IsElementsFile q.0.told q.1 inputs)
             (λ i. (c.in_ok-read.ensures.quiet i, c.values-values_name.ensures i)) c.in_ok-inputs.ensures.elements;
         satisfied = subst (λ (q : List ℕ × List ℕ). SatisfiesElements circuit q.0 q.1) (λ i. (c.deref.ensures.value i, c.deref-2.ensures.value i))
-            c.in_ok-elements.ensures.satisfied;
+            c.in_ok-given.ensures.satisfied;
       },
-      subst (λ (l : List ℕ). AreComputed circuit l c.in_ok-elements.elements.items) c.deref.ensures.value c.in_ok-elements.ensures.computed,
+      subst (λ (l : List ℕ). AreGivenValues circuit l c.in_ok-given.given.items) c.deref.ensures.value c.in_ok-given.ensures.given,
     )

@@ -1,8 +1,7 @@
-use Rattle.std.proofs.Common.{◌∙◌, All, length, ap, sym, subst}
+use Rattle.std.proofs.Common.{All, sym, subst}
 use Rattle.std.proofs.lemmas.Result.{IfOk-weaker}
 use Rattle.zk_model.specs.Field.{IsElement}
 use Rattle.wire_auth.proofs.Correcting.{bits_are_elements}
-use Rattle.wire_auth.proofs.Making.{length-given_from}
 use Rattle.session_core.specs.Jobs.{given_by}
 use Rattle.session_core.specs.declared.wire_values.WireValues.{WireValues}
 use Rattle.session_core.proofs.wire_values.known_corrections.Goals as goal
@@ -12,9 +11,3 @@ returns-in-Bits-clause-elements c = IfOk-weaker c.bit_corrections.result _ _
     (λ v counted. subst (λ (w : WireValues). All IsElement (given_by c.args.program.now w)) (sym c.in-Bits.is)
     (bits_are_elements c.args.program.now.products c.in-Bits.bits.items))
     c.bit_corrections.ensures.one_each
-
-pub returns-in-Elements-clause-one_each : goal.returns-in-Elements-clause-one_each
-returns-in-Elements-clause-one_each c = IfOk-weaker c.value_corrections.result _ _
-    (λ v counted. counted ∙ sym (length-given_from c.args.program.now c.in-Elements.elements.items c.givens-givens.ensures.held.counted)
-    ∙ ap (λ (w : WireValues). length (given_by c.args.program.now w)) (sym c.in-Elements.is))
-    c.value_corrections.ensures.one_each

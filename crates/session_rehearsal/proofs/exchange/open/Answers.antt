@@ -25,8 +25,8 @@ enough prover job grant pairs seen params stated is file counted same =
     (enough_units prover.file.params prover.statement.program grant.section_length grant.count (length pairs)
     (subst AreParams (sym params) file.params) needed counted)
 
-pub commit-requires-clause-enough : goal.commit-requires-clause-enough
-commit-requires-clause-enough g c =
+pub commit_with-requires-clause-enough : goal.commit_with-requires-clause-enough
+commit_with-requires-clause-enough g c =
     enough c.args.prover.now c.args.verifier.now c.args.grant (items_in c.args.established.pairs) c.as_slice-seen.result.now
     c.requires.dealt.params c.requires.stated c.requires.grant (subst IsVerifierFile c.file.ensures.file c.total-total.ensures.file)
     c.requires.pairs c.as_slice-seen.ensures
