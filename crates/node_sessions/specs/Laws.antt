@@ -1,6 +1,7 @@
 -- What follows of the sessions of a node.
 use Rattle.std.specs.Prelude.{◌≡◌, ◌≢◌, ℕ, ◌+◌, ◌<◌, ◌≤◌, List, Bool, true, false, None, Option, IfSome, All, AllPairs}
 use Rattle.zk_model.specs.declared.Span.{Span}
+use Rattle.zk_port.specs.Counts.{Rose}
 use Rattle.zk_port.specs.Disks.{DiskState}
 use Rattle.zk_port.specs.Doors.{DoorState}
 use Rattle.zk_port.specs.Links.{LinkState}
@@ -58,8 +59,8 @@ LaterGrantsAreApart L M =
 
 -- ---- claims
 
--- Every earlier claim is one of the later; total, place and room of the journal stay, its disk's count of faults does not fall, and a store that
--- a fault of the disk ended is as it was.
+-- Every earlier claim is one of the later; total, place and room of the journal stay, and its disk's count of faults does not fall. A store that
+-- a fault of the disk ended is as it was; and one that ended meanwhile was ended by a fault of the disk.
 pub record ClaimsStay {B : Type 0} (state : B → DiskState) (old new : ClaimState B) : Type 0 where
   pub kept : (unit : ℕ) → is_claimed old.claims unit ≡ true → is_claimed new.claims unit ≡ true
   pub total : new.total ≡ old.total
@@ -67,6 +68,7 @@ pub record ClaimsStay {B : Type 0} (state : B → DiskState) (old new : ClaimSta
   pub slots : new.slots ≡ old.slots
   pub faults : (state old.disk).faults ≤ (state new.disk).faults
   pub broken : old.fault ≢ 0 → new ≡ old
+  pub ended : old.fault ≡ 0 → new.fault ≢ 0 → Rose (state old.disk).faults (state new.disk).faults
 
 abbrev pub ClaimsAreKept : {B L : Type 0} → (L → LinkState) → (B → DiskState) → Type 0
 ClaimsAreKept tells state = AfterServing tells state (λ ports jobs first door claims notes. ClaimsStay state first.claims claims)

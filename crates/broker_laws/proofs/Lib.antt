@@ -1,0 +1,12 @@
+pub mod Chains
+pub mod Grants
+pub mod Ceilings
+pub mod Exchanges
+pub mod BrokerSteps
+pub mod NodeSteps
+pub mod Histories
+pub mod Interleaved
+pub mod Leaving
+pub mod Rows
+pub mod Joins
+pub mod Sessions
