@@ -16,7 +16,8 @@ use Rattle.file_commands.specs.Stops.{ListenStop, stop_status}
 use Rattle.file_commands.specs.declared.refusal.Refusal.{Refusal}
 use Rattle.file_commands.specs.declared.refusal.Refusal.TheVariants as stop
 use Rattle.file_commands.proofs.Causes.{file_7, sound_7}
-use Rattle.broker_command.specs.BrokerRuns.{BrokerAsk, BrokerLines, BrokerMeans, BrokerStop, HasBrokerFailed, HasCeilings, IsBrokerDone, IsBrokerable, ServesAsBroker}
+use Rattle.command_words.specs.Words.{BrokerAsk}
+use Rattle.broker_command.specs.BrokerRuns.{BrokerLines, BrokerMeans, BrokerStop, HasBrokerFailed, HasCeilings, IsBrokerDone, IsBrokerable, ServesAsBroker}
 use Rattle.broker_command.proofs.BrokerOutcomes.{broker_means, broker_statuses, broker_takes}
 
 -- ---- why a run stops: for want of memory alone

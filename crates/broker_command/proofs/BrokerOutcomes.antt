@@ -19,7 +19,8 @@ use Rattle.file_commands.specs.declared.refusal.Refusal.TheVariants as stop
 use Rattle.lease_journal.specs.declared.fault.StartFault.{StartFault}
 use Rattle.file_commands.proofs.Journals.{rose_by}
 use Rattle.file_commands.proofs.Means.{IsHigh, any_answers, file_status, stop_answers, zero_answers}
-use Rattle.broker_command.specs.BrokerRuns.{BrokerAsk, BrokerLines, BrokerMeans, BrokerStop, NotesMean, SaysNotes, SomeLinkFailed, TakesAll}
+use Rattle.command_words.specs.Words.{BrokerAsk}
+use Rattle.broker_command.specs.BrokerRuns.{BrokerLines, BrokerMeans, BrokerStop, NotesMean, SaysNotes, SomeLinkFailed, TakesAll}
 use Rattle.broker_command.specs.NoteLines.{brokered_status, brokered_text, has_status}
 use Rattle.broker_command.proofs.Endings.{IsLinkOf, all_granted, is_link, is_out, is_refused, lacks_want, links_failed, some_note}
 

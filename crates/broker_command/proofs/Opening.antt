@@ -14,7 +14,8 @@ use Rattle.broker_service.specs.Left.{IsBrokered}
 use Rattle.file_commands.specs.Effects.{DoorChange}
 use Rattle.file_commands.specs.Journals.{OpensJournal, disk_change, own_journal}
 use Rattle.file_commands.proofs.Journals.{keeps_ceiling}
-use Rattle.broker_command.specs.BrokerRuns.{AnswersWants, BrokerAsk}
+use Rattle.command_words.specs.Words.{BrokerAsk}
+use Rattle.broker_command.specs.BrokerRuns.{AnswersWants}
 
 pub answers_wants : {B L : Type 0} (link_tells : L → LinkState) (state : B → DiskState) (ask : BrokerAsk) (file : VerifierFile)
     (notes : List (BrokerNote L LeaseFault)) (door_failed memory_failed : Bool) (old mid new : DiskState) (door : DoorChange) (base : ℕ) (passes : List Pass)

@@ -1,7 +1,6 @@
 -- `broker`: what it answers and says, and what it promises of its run.
-use Rattle.std.specs.Prelude.{◌≡◌, ◌≢◌, ◌⊎◌, ◌+◌, ◌-◌, ◌≤◌, max, ℕ, List, [], ◌∷◌, All, AllPairs, Contains, length, Bool, false, Option, None, Some, IfSome, IsSomeAnd, String, string_bytes}
+use Rattle.std.specs.Prelude.{◌≡◌, ◌≢◌, ◌⊎◌, ◌+◌, ◌-◌, ◌≤◌, max, ℕ, List, [], ◌∷◌, All, AllPairs, Contains, length, Bool, false, Option, None, Some, IfSome, IsSomeAnd}
 use Rattle.std.specs.List.{AllZip, sum_by}
-use Rattle.std.specs.declared.alloc.Global.{Global}
 use Rattle.zk_model.specs.Files.{VerifierFile}
 use Rattle.zk_model.specs.declared.Side.TheVariants.{Verifier}
 use Rattle.zk_port.specs.Counts.{Rose}
@@ -26,22 +25,12 @@ use Rattle.broker_links.specs.declared.reply.Reply.TheVariants as reply
 use Rattle.broker_service.specs.Granted.{AreOneOrApart, IsMarkedFault, IsSafeBlock, IsToldBy, LiesBetween, block_in, fault_in, faults_met, out_in, units_for}
 use Rattle.broker_service.specs.Left.{keeping_none}
 use Rattle.broker_service.specs.Turns.{AreExchanges, Keeping}
+use Rattle.command_words.specs.Words.{BrokerAsk}
 use Rattle.file_commands.specs.Effects.{DoorChange, Effects, IsName, NameFailed, OnlyLoads, ShelfChange, SinkFailed}
 use Rattle.file_commands.specs.Journals.{DiskChange, IsCeilingsFault, IsUntouched, JournalStop, KeepsCeiling, OnlyReads, own_journal}
 use Rattle.file_commands.specs.Stops.{FileStop, HasText, IsOfStop, IsVerifierFileAt, ListenStop, PrintsMade, SaysStop, WritesAll}
 use Rattle.file_commands.specs.declared.refusal.Refusal.{Refusal}
 use Rattle.broker_command.specs.NoteLines.{brokered_status, brokered_text}
-use Rattle.broker_command.specs.declared.broker_ask.BrokerAsk.{BrokerAsk as BrokerAskOf}
-
--- what is asked for: an address, the name of a verifier's file, a count of wants and a patience in seconds
-abbrev pub BrokerAsk : Type 0
-BrokerAsk = BrokerAskOf (List ℕ)
-
-abbrev pub broker_ask : List ℕ → List ℕ → ℕ → ℕ → BrokerAsk
-broker_ask address file asks timeout = record { address = address; file = file; asks = asks; timeout = timeout }
-
-abbrev pub broker_of : BrokerAskOf (String Global) → BrokerAsk
-broker_of ask = broker_ask (string_bytes ask.address) (string_bytes ask.file) ask.asks ask.timeout
 
 -- ---- why no link is taken
 

@@ -78,7 +78,10 @@ fn write_outcome(alloc: Global, outcome: &BrokerOutcome<LeaseFault>) -> Result<S
 }
 
 /// The line of an exchange.
-fn write_note(alloc: Global, outcome: &BrokerOutcome<LeaseFault>) -> Result<String, AllocError>
+pub(crate) fn write_note(
+    alloc: Global,
+    outcome: &BrokerOutcome<LeaseFault>,
+) -> Result<String, AllocError>
     ensures { IfOk result (λ line. string_bytes line ≡ note_line outcome.now) }
 {
     let mut line = write_outcome(alloc, outcome)?;

@@ -1,7 +1,8 @@
 -- What is served: where, over which file, and about which claims.
-use Rattle.std.specs.Prelude.{ℕ, List, [], ◌∷◌, map}
+use Rattle.std.specs.Prelude.{ℕ, List, [], ◌∷◌, map, None}
+use Rattle.zk_model.specs.declared.limits.TheConstants.{MAX_SECTION_LENGTH}
 use Rattle.command_words.specs.BitWords.{Bits}
-use Rattle.command_words.specs.Words.{ServeArithAsk, ServeAsk, ServeManyAsk, ServeOptions}
+use Rattle.command_words.specs.Words.{ServeArithAsk, ServeAsk, ServeManyAsk, ServeNodeAsk, ServeOptions, serve_options}
 use Rattle.statement_file.specs.Claims.{NamedClaim, named_claim}
 use Rattle.claim_files.specs.NamedElements.{named_elements}
 use Rattle.claim_files.specs.declared.claim_names.ClaimNames.{ClaimNames}
@@ -34,3 +35,11 @@ service_of_arith ask = service ask.address ask.file (claim_of_arith ask ∷ []) 
 -- and of these claims, which a file of statements names
 abbrev pub service_of_many : ServeManyAsk → List NamedClaim → Service
 service_of_many ask claims = service ask.address ask.file (map names.Boolean claims) ask.options
+
+-- and of the one claim of a node, which has no public bits: by one worker, in sections of the greatest length, with no logs
+abbrev pub claim_of_node : ServeNodeAsk Bits → ClaimNames
+claim_of_node ask = names.Boolean (named_claim ask.circuit [] ask.outputs)
+
+abbrev pub service_of_node : ServeNodeAsk Bits → Service
+service_of_node ask = service ask.address ask.file (claim_of_node ask ∷ [])
+    (serve_options ask.sessions 1 MAX_SECTION_LENGTH ask.timeout None ask.follow)

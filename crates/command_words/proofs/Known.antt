@@ -12,7 +12,7 @@ use Rattle.command_words.specs.Found.{told}
 use Rattle.command_words.specs.Rows.{Row, ids_of, row_of}
 use Rattle.command_words.specs.Words.{name_of, names_of}
 use Rattle.command_words.specs.declared.table.Name.{Name}
-use Rattle.command_words.specs.declared.table.Name.TheVariants.{Rehearse, RehearseArith, Eval, Deal, Serve, ServeMany, ServeArith, Prove, ProveArith, Audit, AuditArith, Migrate, Status, Node}
+use Rattle.command_words.specs.declared.table.Name.TheVariants.{Rehearse, RehearseArith, Eval, Deal, Serve, ServeMany, ServeArith, Prove, ProveArith, Audit, AuditArith, Migrate, Status, Node, Broker, ServeNode}
 use Rattle.command_words.proofs.Rows.{same_text}
 use Rattle.command_words.proofs.Steps.{flag, place, valued}
 use Rattle.command_words.proofs.Walks.{KnowsName, KnowsNames, KnowsPlaces, are_apart, is_among, is_apart}
@@ -187,3 +187,5 @@ known_of AuditArith = known_row (row_of AuditArith) refl refl refl refl refl ref
 known_of Migrate = known_row (row_of Migrate) refl refl refl refl refl refl refl (λ rows. refl) refl refl refl refl refl refl refl refl refl refl refl
 known_of Status = known_row (row_of Status) refl refl refl refl refl refl refl (λ rows. refl) refl refl refl refl refl refl refl refl refl refl refl
 known_of Node = known_row (row_of Node) refl refl refl refl refl refl refl (λ rows. refl) refl refl refl refl refl refl refl refl refl refl refl
+known_of Broker = known_row (row_of Broker) refl refl refl refl refl refl refl (λ rows. refl) refl refl refl refl refl refl refl refl refl refl refl
+known_of ServeNode = known_row (row_of ServeNode) refl refl refl refl refl refl refl (λ rows. refl) refl refl refl refl refl refl refl refl refl refl refl

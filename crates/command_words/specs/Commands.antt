@@ -3,13 +3,13 @@ use Rattle.std.specs.Prelude.{ℕ, ◌<◌, ◌≤◌, IfSome, Bool, String, Vec
 use Rattle.std.specs.Option.{option_map}
 use Rattle.std.specs.declared.alloc.Global.{Global}
 use Rattle.zk_model.specs.Files.{AreParams}
-use Rattle.command_words.specs.Words.{Ask, AuditArithAsk, AuditAsk, DealAsk, EvalAsk, MigrateAsk, NodeAsk, ProveArithAsk, ProveAsk, RehearseArithAsk, RehearseAsk, ServeArithAsk, ServeAsk, ServeManyAsk, ServeOptions, StatusAsk}
-use Rattle.command_words.specs.Words.{audit_arith_ask, audit_ask, deal_ask, eval_ask, migrate_ask, node_ask, prove_arith_ask, prove_ask, rehearse_arith_ask, rehearse_ask, serve_arith_ask, serve_ask, serve_many_ask, serve_options, status_ask}
+use Rattle.command_words.specs.Words.{Ask, AuditArithAsk, AuditAsk, BrokerAsk, DealAsk, EvalAsk, MigrateAsk, NodeAsk, ProveArithAsk, ProveAsk, RehearseArithAsk, RehearseAsk, ServeArithAsk, ServeAsk, ServeManyAsk, ServeNodeAsk, ServeOptions, StatusAsk}
+use Rattle.command_words.specs.Words.{audit_arith_ask, audit_ask, broker_ask, deal_ask, eval_ask, migrate_ask, node_ask, prove_arith_ask, prove_ask, rehearse_arith_ask, rehearse_ask, serve_arith_ask, serve_ask, serve_many_ask, serve_node_ask, serve_options, status_ask}
 use Rattle.command_words.specs.BitWords.{Bits, BitsAsk, said, named}
 use Rattle.command_words.specs.declared.bits.BitsWord.{BitsWord}
 use Rattle.command_words.specs.declared.bits.BitsWord.TheVariants.{Said, Named}
 use Rattle.command_words.specs.declared.asks.Ask.{Ask as AskOf}
-use Rattle.command_words.specs.declared.asks.Ask.TheVariants.{Rehearse, Generate, RehearseArith, Eval, Deal, Serve, ServeMany, ServeArith, Prove, ProveArith, Audit, AuditArith, Migrate, Status, Node}
+use Rattle.command_words.specs.declared.asks.Ask.TheVariants.{Rehearse, Generate, RehearseArith, Eval, Deal, Serve, ServeMany, ServeArith, Prove, ProveArith, Audit, AuditArith, Migrate, Status, Node, Broker, ServeNode}
 use Rattle.command_words.specs.declared.asks.RehearseAsk.{RehearseAsk as RehearseAskOf}
 use Rattle.command_words.specs.declared.asks.RehearseArithAsk.{RehearseArithAsk as RehearseArithAskOf}
 use Rattle.command_words.specs.declared.asks.EvalAsk.{EvalAsk as EvalAskOf}
@@ -25,7 +25,9 @@ use Rattle.command_words.specs.declared.asks.AuditArithAsk.{AuditArithAsk as Aud
 use Rattle.command_words.specs.declared.asks.MigrateAsk.{MigrateAsk as MigrateAskOf}
 use Rattle.command_words.specs.declared.asks.StatusAsk.{StatusAsk as StatusAskOf}
 use Rattle.command_words.specs.declared.asks.NodeAsk.{NodeAsk as NodeAskOf}
-use Rattle.command_words.specs.declared.asks.TheConstants.{MAX_SESSIONS, MAX_TIMEOUT}
+use Rattle.command_words.specs.declared.asks.BrokerAsk.{BrokerAsk as BrokerAskOf}
+use Rattle.command_words.specs.declared.asks.ServeNodeAsk.{ServeNodeAsk as ServeNodeAskOf}
+use Rattle.command_words.specs.declared.asks.TheConstants.{MAX_ASKS, MAX_SESSIONS, MAX_TIMEOUT}
 use Rattle.zk_model.specs.declared.limits.TheConstants.{MAX_GENERATED_GATES, MAX_NODES, MAX_PASSES, MAX_SECTION_LENGTH}
 
 -- a command as code has it
@@ -105,6 +107,14 @@ status_of ask = status_ask (string_bytes ask.file) (option_map (λ name. string_
 abbrev pub node_of : NodeAskOf (String Global) → NodeAsk
 node_of ask = node_ask (string_bytes ask.file) ask.node
 
+abbrev pub broker_of : BrokerAskOf (String Global) → BrokerAsk
+broker_of ask = broker_ask (string_bytes ask.address) (string_bytes ask.file) ask.asks ask.timeout ask.follow
+
+abbrev pub serve_node_of : {B C : Type 0} → (B → C) → ServeNodeAskOf (String Global) B → ServeNodeAsk C
+serve_node_of given ask =
+    serve_node_ask (string_bytes ask.address) (string_bytes ask.broker) (string_bytes ask.file) (string_bytes ask.circuit)
+    (given ask.outputs) ask.node ask.sessions ask.timeout ask.follow
+
 abbrev pub ask_of : {B C : Type 0} → (B → C) → Command B → Ask C
 ask_of given (Rehearse ask) = Rehearse (rehearse_of given ask)
 ask_of given (Generate ask) = Generate ask
@@ -121,6 +131,8 @@ ask_of given (AuditArith ask) = AuditArith (audit_arith_of ask)
 ask_of given (Migrate ask) = Migrate (migrate_of ask)
 ask_of given (Status ask) = Status (status_of ask)
 ask_of given (Node ask) = Node (node_of ask)
+ask_of given (Broker ask) = Broker (broker_of ask)
+ask_of given (ServeNode ask) = ServeNode (serve_node_of given ask)
 
 -- a section has so many products
 pub record IsSectionSize (section : ℕ) : Type 0 where
@@ -141,6 +153,19 @@ pub record AreServeLimits (options : ServeOptions) : Type 0 where
   pub section : IsSectionSize options.section
   pub timeout : IsTimeout options.timeout
 
+-- so many wants may be asked for, and a silent node is waited for so long
+pub record AreBrokerLimits (asks timeout : ℕ) : Type 0 where
+  pub least : 1 ≤ asks
+  pub most : asks ≤ MAX_ASKS
+  pub patience : IsTimeout timeout
+
+-- there are such nodes, so many sessions may be asked for, and a silent peer is waited for so long
+pub record AreNodeLimits (node sessions timeout : ℕ) : Type 0 where
+  pub node_most : node < MAX_NODES
+  pub sessions_least : 1 ≤ sessions
+  pub sessions_most : sessions ≤ MAX_SESSIONS
+  pub patience : IsTimeout timeout
+
 -- the numbers that a command names are within their limits
 abbrev pub IsWithinLimits : {B : Type 0} → Command B → Type 0
 IsWithinLimits (Rehearse ask) = IsSectionSize ask.section
@@ -154,4 +179,6 @@ IsWithinLimits (Prove ask) = IsTimeout ask.timeout
 IsWithinLimits (ProveArith ask) = IsTimeout ask.timeout
 IsWithinLimits (Status ask) = IfSome ask.node (λ node. node < MAX_NODES)
 IsWithinLimits (Node ask) = ask.node < MAX_NODES
+IsWithinLimits (Broker ask) = AreBrokerLimits ask.asks ask.timeout
+IsWithinLimits (ServeNode ask) = AreNodeLimits ask.node ask.sessions ask.timeout
 IsWithinLimits other = Unit {0}

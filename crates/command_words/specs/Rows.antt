@@ -15,7 +15,7 @@ use Rattle.command_words.specs.declared.table.Need.TheVariants.{Always, Optional
 use Rattle.command_words.specs.declared.table.Row.{Row as RowOf}
 use Rattle.command_words.specs.declared.table.WordKind.{WordKind}
 use Rattle.command_words.specs.declared.table.WordKind.TheVariants as k
-use Rattle.command_words.specs.declared.table.TheConstants.{REHEARSE, REHEARSE_ARITH, EVAL, DEAL, SERVE, SERVE_MANY, SERVE_ARITH, PROVE, PROVE_ARITH, AUDIT, AUDIT_ARITH, MIGRATE, STATUS, NEW_NODE, NAMES}
+use Rattle.command_words.specs.declared.table.TheConstants.{REHEARSE, REHEARSE_ARITH, EVAL, DEAL, SERVE, SERVE_MANY, SERVE_ARITH, PROVE, PROVE_ARITH, AUDIT, AUDIT_ARITH, MIGRATE, STATUS, NEW_NODE, BROKER, SERVE_NODE, NAMES}
 
 -- ---- rows, with their texts as bytes
 
@@ -64,6 +64,8 @@ row_of n.AuditArith = row_said (λ t. t.now) (λ c. c.now) (λ f. f.now) AUDIT_A
 row_of n.Migrate = row_said (λ t. t.now) (λ c. c.now) (λ f. f.now) MIGRATE
 row_of n.Status = row_said (λ t. t.now) (λ c. c.now) (λ f. f.now) STATUS
 row_of n.Node = row_said (λ t. t.now) (λ c. c.now) (λ f. f.now) NEW_NODE
+row_of n.Broker = row_said (λ t. t.now) (λ c. c.now) (λ f. f.now) BROKER
+row_of n.ServeNode = row_said (λ t. t.now) (λ c. c.now) (λ f. f.now) SERVE_NODE
 
 -- the command that a word names
 unfoldable pub named : List ℕ → Option Name

@@ -32,6 +32,8 @@ use Rattle.command_words.specs.declared.asks.AuditArithAsk.{AuditArithAsk as Aud
 use Rattle.command_words.specs.declared.asks.MigrateAsk.{MigrateAsk as MigrateAskOf}
 use Rattle.command_words.specs.declared.asks.StatusAsk.{StatusAsk as StatusAskOf}
 use Rattle.command_words.specs.declared.asks.NodeAsk.{NodeAsk as NodeAskOf}
+use Rattle.command_words.specs.declared.asks.BrokerAsk.{BrokerAsk as BrokerAskOf}
+use Rattle.command_words.specs.declared.asks.ServeNodeAsk.{ServeNodeAsk as ServeNodeAskOf}
 use Rattle.command_words.specs.declared.table.Name.{Name}
 use Rattle.command_words.specs.declared.table.Name.TheVariants as n
 
@@ -147,6 +149,29 @@ NodeAsk = NodeAskOf (List ℕ)
 abbrev pub node_ask : List ℕ → ℕ → NodeAsk
 node_ask file node = record { file = file; node = node }
 
+abbrev pub BrokerAsk : Type 0
+BrokerAsk = BrokerAskOf (List ℕ)
+
+abbrev pub broker_ask : List ℕ → List ℕ → ℕ → ℕ → Bool → BrokerAsk
+broker_ask address file asks timeout follow =
+    record { address = address; file = file; asks = asks; timeout = timeout; follow = follow }
+
+abbrev pub ServeNodeAsk : Type 0 → Type 0
+ServeNodeAsk B = ServeNodeAskOf (List ℕ) B
+
+abbrev pub serve_node_ask : {B : Type 0} → List ℕ → List ℕ → List ℕ → List ℕ → B → ℕ → ℕ → ℕ → Bool → ServeNodeAsk B
+serve_node_ask address broker file circuit outputs node sessions timeout follow = record {
+  address = address;
+  broker = broker;
+  file = file;
+  circuit = circuit;
+  outputs = outputs;
+  node = node;
+  sessions = sessions;
+  timeout = timeout;
+  follow = follow;
+}
+
 -- ---- what each command asks for, by what is read of its row
 
 -- the kind of files for which `--extended` may stand
@@ -242,6 +267,15 @@ status_by file circuit node = Some (a.Status (status_ask file circuit node))
 abbrev pub node_by : FromRow (row_of n.Node) (Option (Ask BitsAsk))
 node_by file node = Some (a.Node (node_ask file node))
 
+-- `broker ADDRESS FILE --asks N [--timeout S] [--follow]`
+abbrev pub broker_by : FromRow (row_of n.Broker) (Option (Ask BitsAsk))
+broker_by address file asks timeout follow = Some (a.Broker (broker_ask address file asks timeout follow))
+
+-- `serve-node ADDRESS BROKER FILE CIRCUIT OUTPUTS --node K --sessions N [--timeout S] [--follow]`
+abbrev pub serve_node_by : FromRow (row_of n.ServeNode) (Option (Ask BitsAsk))
+serve_node_by address broker file circuit outputs node sessions timeout follow =
+    Some (a.ServeNode (serve_node_ask address broker file circuit outputs node sessions timeout follow))
+
 abbrev pub asks_by : (name : Name) → FromRow (row_of name) (Option (Ask BitsAsk))
 asks_by n.Rehearse = rehearse_by
 asks_by n.RehearseArith = rehearse_arith_by
@@ -257,6 +291,8 @@ asks_by n.AuditArith = audit_arith_by
 asks_by n.Migrate = migrate_by
 asks_by n.Status = status_by
 asks_by n.Node = node_by
+asks_by n.Broker = broker_by
+asks_by n.ServeNode = serve_node_by
 
 -- ---- what words ask for
 

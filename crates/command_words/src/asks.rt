@@ -5,6 +5,9 @@ use zk_model::{Kind, Params, Side};
 /// How many sessions a run serves at most.
 pub const MAX_SESSIONS: u32 = 65_536;
 
+/// How many wants a broker answers in a run at most.
+pub const MAX_ASKS: u32 = 65_536;
+
 /// For how many seconds a silent peer is waited for at most: a day.
 pub const MAX_TIMEOUT: u32 = 86_400;
 
@@ -165,6 +168,33 @@ pub struct NodeAsk<T> {
     pub node: u32,
 }
 
+/// A broker of a verifier's file: where nodes connect, the file, how many wants are answered, for how many seconds a silent node is waited for,
+/// and whether standard error says how it goes.
+#[derive(Debug, Drop)]
+pub struct BrokerAsk<T> {
+    pub address: T,
+    pub file: T,
+    pub asks: u32,
+    pub timeout: u32,
+    pub follow: bool,
+}
+
+/// A node that serves one statement: where provers connect, where its broker listens, the verifier's file, the circuit's file, the claimed
+/// outputs, the node's number, how many sessions, for how many seconds a silent peer is waited for, and whether standard error says how it
+/// goes.
+#[derive(Debug, Drop)]
+pub struct ServeNodeAsk<T, B> {
+    pub address: T,
+    pub broker: T,
+    pub file: T,
+    pub circuit: T,
+    pub outputs: B,
+    pub node: u32,
+    pub sessions: u32,
+    pub timeout: u32,
+    pub follow: bool,
+}
+
 /// What can be asked for.
 #[derive(Debug, Drop)]
 pub enum Ask<T, B> {
@@ -183,6 +213,8 @@ pub enum Ask<T, B> {
     Migrate(MigrateAsk<T>),
     Status(StatusAsk<T>),
     Node(NodeAsk<T>),
+    Broker(BrokerAsk<T>),
+    ServeNode(ServeNodeAsk<T, B>),
 }
 
 /// A command, where bits are given as `B`.

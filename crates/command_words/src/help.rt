@@ -43,6 +43,10 @@ usage:
       says how many units of a dealt file are left, and how many sessions they are enough for
   zk node FILE K
       makes node K of a verifier's file: a journal of the units that it claims
+  zk broker ADDRESS FILE --asks N [--timeout S] [--follow]
+      leases blocks of a verifier's units to the nodes that call over TCP
+  zk serve-node ADDRESS BROKER FILE CIRCUIT OUTPUTS --node K --sessions N [--timeout S] [--follow]
+      as `zk serve`, with units of blocks that the broker at BROKER leases to node K
   zk COMMAND --help
       says more about a command
   zk --version
@@ -271,6 +275,42 @@ claimed units, lets it claim them again.
 example: zk node /tmp/demo.verifier 3
 
 statuses: 0 stored, 3 the file is refused, 4 a file or the output failed, 7 memory was missing
+";
+
+pub const BROKER: &str = "\
+usage: zk broker ADDRESS FILE --asks N [--timeout S] [--follow]
+
+Listens at ADDRESS and answers a want of each of N nodes that call, by a block of the units of the verifier's file FILE, or by
+where they end. Units are leased in FILE.journal, each once, 16 or a multiple of it at a time. A want that a node sends again
+gets the same block, while this broker runs. In a line for each node, in order: `want NODE NUMBER block A..B`, `want NODE
+NUMBER out A`, or `no want` and why.
+
+  --asks N         1 to 65536
+  --timeout S      seconds for which a silent node is waited for, 1 to 86400; the default is 120
+  --follow         says on standard error where it listens, what is left, and each line when the node is answered
+
+example: zk broker 127.0.0.1:4100 /tmp/demo.verifier --asks 4
+
+statuses: 0 all wants got blocks, 1 some node sent no want, 3 the file is refused, 4 a file, the network or the output
+  failed, 5 the journal failed, 6 the units are used up, 7 memory was missing
+";
+
+pub const SERVE_NODE: &str = "\
+usage: zk serve-node ADDRESS BROKER FILE CIRCUIT OUTPUTS --node K --sessions N [--timeout S] [--follow]
+
+As `zk serve`, by node K of the verifier's file FILE: sessions are led one after another, with units of the block that the node
+holds. Where too few are left there, the node asks the broker at BROKER for another, 64 times at most, and claims it in
+FILE.node.K before it uses any of it; what was left of the block before is burnt. `zk node` makes that journal.
+
+  --node K         0 to 1023
+  --sessions N     1 to 65536
+  --timeout S      seconds for which a silent prover or broker is waited for, 1 to 86400; the default is 120
+  --follow         says on standard error where it listens, what is left, and each session's line when it ends
+
+example: zk serve-node 127.0.0.1:4000 127.0.0.1:4100 /tmp/demo.verifier examples/and.txt 1 --node 3 --sessions 2
+
+statuses: 0 all accepted, 1 some session was not, or got no block, 3 a file or a number of bits is refused, 4 a file, the
+  network or the output failed, 5 the journal failed, 7 memory was missing, 9 more units are needed than a session may have
 ";
 
 const VERSION: &str = "zk 1.0\n";

@@ -21,9 +21,9 @@ mod table;
 mod words;
 
 pub use asks::{
-    Ask, AuditArithAsk, AuditAsk, Command, DealAsk, EvalAsk, GenerateAsk, MAX_SESSIONS, MigrateAsk,
-    NodeAsk, ProveArithAsk, ProveAsk, RehearseArithAsk, RehearseAsk, ServeArithAsk, ServeAsk,
-    ServeManyAsk, ServeOptions, StatusAsk,
+    Ask, AuditArithAsk, AuditAsk, BrokerAsk, Command, DealAsk, EvalAsk, GenerateAsk, MAX_SESSIONS,
+    MigrateAsk, NodeAsk, ProveArithAsk, ProveAsk, RehearseArithAsk, RehearseAsk, ServeArithAsk,
+    ServeAsk, ServeManyAsk, ServeNodeAsk, ServeOptions, StatusAsk,
 };
 pub use bits::{BitsWord, read_bits, read_bits_word, write_bits};
 pub use help::help_text;

@@ -17,16 +17,16 @@ ghost use Rattle.zk_model.specs.declared.Side.TheVariants.{Prover, Verifier};
 ghost use Rattle.zk_model.specs.declared.limits.TheConstants.{FILE_LIMIT};
 
 use crate::asks::{
-    Ask, AuditArithAsk, AuditAsk, DealAsk, EvalAsk, GenerateAsk, MigrateAsk, NodeAsk,
+    Ask, AuditArithAsk, AuditAsk, BrokerAsk, DealAsk, EvalAsk, GenerateAsk, MigrateAsk, NodeAsk,
     ProveArithAsk, ProveAsk, RehearseArithAsk, RehearseAsk, SaidCommand, ServeArithAsk, ServeAsk,
-    ServeManyAsk, ServeOptions, StatusAsk,
+    ServeManyAsk, ServeNodeAsk, ServeOptions, StatusAsk,
 };
 use crate::bits::{BitsWord, read_bits_word};
 use crate::found::{At, Found};
 use crate::numbers::read_number;
 use crate::table::{
-    BASE, EXTENDED, FOLLOW, GATES, HEIGHT, K, LOGS, NODE, NUMBER, PUBLIC, SECTION, SESSIONS,
-    SOME_PUBLIC, TIMEOUT, TREES, TableColumn, UNITS, WORKERS, WordKind,
+    ASKS, BASE, EXTENDED, FOLLOW, GATES, HEIGHT, K, LOGS, NODE, NUMBER, OWN_NODE, PUBLIC, SECTION,
+    SESSIONS, SOME_PUBLIC, TIMEOUT, TREES, TableColumn, UNITS, WORKERS, WordKind,
 };
 use dealer_files::file_length;
 use std::alloc::{AllocError, Global};
@@ -441,5 +441,37 @@ pub fn node(alloc: Global, found: &Found) -> Result<SaidCommand, Unread>
     Ok(Ask::Node(NodeAsk {
         file: found.text(alloc, At::Place(0))?,
         node: found.placed_number(At::Place(1), K.1)? as u32,
+    }))
+}
+
+/// A broker of a verifier's file.
+pub fn broker(alloc: Global, found: &Found) -> Result<SaidCommand, Unread>
+    ensures asked { IsReadTo (ask_of bits_ask) (asked_in name.Broker found.now) result }
+    ensures limits { IfOk result IsWithinLimits }
+{
+    Ok(Ask::Broker(BrokerAsk {
+        address: found.text(alloc, At::Place(0))?,
+        file: found.text(alloc, At::Place(1))?,
+        asks: found.number(ASKS)? as u32,
+        timeout: found.number(TIMEOUT)? as u32,
+        follow: found.flag(FOLLOW),
+    }))
+}
+
+/// A node that serves one statement.
+pub fn serve_node(alloc: Global, found: &Found) -> Result<SaidCommand, Unread>
+    ensures asked { IsReadTo (ask_of bits_ask) (asked_in name.ServeNode found.now) result }
+    ensures limits { IfOk result IsWithinLimits }
+{
+    Ok(Ask::ServeNode(ServeNodeAsk {
+        address: found.text(alloc, At::Place(0))?,
+        broker: found.text(alloc, At::Place(1))?,
+        file: found.text(alloc, At::Place(2))?,
+        circuit: found.text(alloc, At::Place(3))?,
+        outputs: found.bits(alloc, At::Place(4))?,
+        node: found.number(OWN_NODE)? as u32,
+        sessions: found.number(SESSIONS)? as u32,
+        timeout: found.number(TIMEOUT)? as u32,
+        follow: found.flag(FOLLOW),
     }))
 }

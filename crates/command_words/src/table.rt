@@ -2,7 +2,7 @@
 ghost use Rattle.std.specs.Prelude.{◌≡◌};
 ghost use Rattle.command_words.specs.Rows.{named, row_at, row_of};
 
-use crate::asks::{MAX_SESSIONS, MAX_TIMEOUT};
+use crate::asks::{MAX_ASKS, MAX_SESSIONS, MAX_TIMEOUT};
 use crate::help;
 use Need::{Always, Default, Optional};
 use WordKind::{Bits, Number, Side, Text};
@@ -52,6 +52,8 @@ pub const ADDRESS: TableColumn = Column("ADDRESS", Text, Always);
 
 pub const BITS: TableColumn = Column("BITS", Bits, Always);
 
+pub const BROKER_ADDRESS: TableColumn = Column("BROKER", Text, Always);
+
 pub const CIRCUIT: TableColumn = Column("CIRCUIT", Text, Always);
 
 pub const FILE: TableColumn = Column("FILE", Text, Always);
@@ -80,6 +82,8 @@ pub const SOME_BITS: TableColumn = Column("BITS", Bits, Optional);
 
 pub const SOME_CIRCUIT: TableColumn = Column("CIRCUIT", Text, Optional);
 
+pub const ASKS: TableColumn = Column("asks", Number(1, MAX_ASKS as u64), Always);
+
 pub const BASE: TableColumn = Column("base", Number(10, MAX_BASE as u64), Optional);
 
 pub const GATES: TableColumn = Column("gates", Number(1, MAX_GENERATED_GATES as u64), Optional);
@@ -89,6 +93,8 @@ pub const HEIGHT: TableColumn = Column("height", Number(1, MAX_HEIGHT as u64), O
 pub const LOGS: TableColumn = Column("logs", Text, Optional);
 
 pub const NODE: TableColumn = Column("node", Number(0, (MAX_NODES - 1) as u64), Optional);
+
+pub const OWN_NODE: TableColumn = Column("node", Number(0, (MAX_NODES - 1) as u64), Always);
 
 pub const NUMBER: TableColumn = Column("number", Number(0, u64::MAX), Optional);
 
@@ -228,6 +234,22 @@ pub const NEW_NODE: TableRow = Row {
     help: help::NODE,
 };
 
+pub const BROKER: TableRow = Row {
+    name: "broker",
+    places: &[ADDRESS, FILE],
+    options: &[ASKS, TIMEOUT],
+    flags: &[FOLLOW],
+    help: help::BROKER,
+};
+
+pub const SERVE_NODE: TableRow = Row {
+    name: "serve-node",
+    places: &[ADDRESS, BROKER_ADDRESS, FILE, CIRCUIT, OUTPUTS],
+    options: &[OWN_NODE, SESSIONS, TIMEOUT],
+    flags: &[FOLLOW],
+    help: help::SERVE_NODE,
+};
+
 /// A command's name.
 #[derive(Clone, Copy)]
 pub enum Name {
@@ -245,6 +267,8 @@ pub enum Name {
     Migrate,
     Status,
     Node,
+    Broker,
+    ServeNode,
 }
 
 /// Each of them.
@@ -263,6 +287,8 @@ pub const NAMES: &[Name] = &[
     Name::Migrate,
     Name::Status,
     Name::Node,
+    Name::Broker,
+    Name::ServeNode,
 ];
 
 impl Name {
@@ -293,6 +319,8 @@ impl Name {
             Name::Migrate => MIGRATE,
             Name::Status => STATUS,
             Name::Node => NEW_NODE,
+            Name::Broker => BROKER,
+            Name::ServeNode => SERVE_NODE,
         }
     }
 }

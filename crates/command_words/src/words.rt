@@ -11,8 +11,8 @@ use crate::asks::{Command, SaidCommand};
 use crate::bits::BitsWord;
 use crate::found::{Found, find_words};
 use crate::reading::{
-    Unread, audit, audit_arith, deal, eval, migrate, node, prove, prove_arith, rehearse,
-    rehearse_arith, serve, serve_arith, serve_many, status,
+    Unread, audit, audit_arith, broker, deal, eval, migrate, node, prove, prove_arith, rehearse,
+    rehearse_arith, serve, serve_arith, serve_many, serve_node, status,
 };
 use crate::table::Name;
 use std::alloc::{AllocError, Global};
@@ -76,5 +76,7 @@ fn read_found(alloc: Global, name: Name, found: &Found) -> Result<SaidCommand, U
         Name::Migrate => migrate(alloc, found),
         Name::Status => status(alloc, found),
         Name::Node => node(alloc, found),
+        Name::Broker => broker(alloc, found),
+        Name::ServeNode => serve_node(alloc, found),
     }
 }

@@ -4,8 +4,8 @@ use Rattle.std.specs.List.{prefix_len}
 use Rattle.zk_model.specs.Circuit.{Circuit}
 use Rattle.zk_port.specs.Files.{Files}
 use Rattle.command_words.specs.BitWords.{Bits, BitsAsk, said, named, bits_word}
-use Rattle.command_words.specs.Words.{Ask, rehearse_ask, eval_ask, serve_ask, prove_ask, audit_ask}
-use Rattle.command_words.specs.declared.asks.Ask.TheVariants.{Rehearse as rehearse, Generate as generate, RehearseArith as rehearse_arith, Eval as eval, Deal as deal, Serve as serve, ServeMany as serve_many, ServeArith as serve_arith, Prove as prove, ProveArith as prove_arith, Audit as audit, AuditArith as audit_arith, Migrate as migrate, Status as status, Node as node}
+use Rattle.command_words.specs.Words.{Ask, rehearse_ask, eval_ask, serve_ask, serve_node_ask, prove_ask, audit_ask}
+use Rattle.command_words.specs.declared.asks.Ask.TheVariants.{Rehearse as rehearse, Generate as generate, RehearseArith as rehearse_arith, Eval as eval, Deal as deal, Serve as serve, ServeMany as serve_many, ServeArith as serve_arith, Prove as prove, ProveArith as prove_arith, Audit as audit, AuditArith as audit_arith, Migrate as migrate, Status as status, Node as node, Broker as broker, ServeNode as serve_node}
 use Rattle.file_commands.specs.Effects.{ShelfChange}
 use Rattle.file_commands.specs.Stops.{HasText, HasCircuit, LoadStop, CircuitStop}
 use Rattle.file_commands.specs.declared.refusal.Refusal.{Refusal}
@@ -60,6 +60,10 @@ IsAskGiven told (audit_arith ask) given = given ≡ audit_arith ask
 IsAskGiven told (migrate ask) given = given ≡ migrate ask
 IsAskGiven told (status ask) given = given ≡ status ask
 IsAskGiven told (node ask) given = given ≡ node ask
+IsAskGiven told (broker ask) given = given ≡ broker ask
+IsAskGiven told (serve_node ask) given =
+    (outputs : Bits) × AreGiven told ask.outputs outputs
+    × (given ≡ serve_node (serve_node_ask ask.address ask.broker ask.file ask.circuit outputs ask.node ask.sessions ask.timeout ask.follow))
 
 -- ---- why words give no bits
 
@@ -118,6 +122,7 @@ WordsStop (prove ask) shelf stop =
     × AreGiven shelf.old.told ask.bits bits
     × WordStop ask.circuit Outputs ask.outputs shelf stop)
 WordsStop (audit ask) shelf stop = ClaimedStop ask.circuit ask.public ask.outputs shelf stop
+WordsStop (serve_node ask) shelf stop = WordStop ask.circuit Outputs ask.outputs shelf stop
 WordsStop other shelf stop = ⊥
 
 -- that, or memory is missing
@@ -143,4 +148,5 @@ IsGivenName (serve ask) name = IsWordsName ask.circuit ask.public ask.outputs na
 IsGivenName (prove ask) name =
     IsWordsName ask.circuit ask.public ask.bits name ⊎ IsWordName ask.circuit ask.outputs name
 IsGivenName (audit ask) name = IsWordsName ask.circuit ask.public ask.outputs name
+IsGivenName (serve_node ask) name = IsWordName ask.circuit ask.outputs name
 IsGivenName other name = ⊥

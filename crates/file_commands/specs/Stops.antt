@@ -86,7 +86,7 @@ elements_line (element.Count need got) = pair_line (codes "refused Count 2") nee
 
 -- the line that is written
 abbrev pub stop_line : Refusal → List ℕ
-stop_line stop.Usage = codes "usage: zk deal, eval, rehearse, prove, serve, serve-many, migrate, status, rehearse-arith, prove-arith, serve-arith, audit-arith, node or audit\n"
+stop_line stop.Usage = codes "usage: zk deal, eval, rehearse, prove, serve, serve-many, migrate, status, rehearse-arith, prove-arith, serve-arith, audit-arith, node, broker, serve-node or audit\n"
 stop_line (stop.BadText fault) = fault_line fault
 stop_line (stop.BadFile fault) = file_line fault
 stop_line (stop.TooLong limit) = refused_line (codes "TooLong 0") limit

@@ -12,7 +12,9 @@ ghost use Rattle.file_commands.specs.GivenBits.{AreGiven, BitsFileStop, ClaimedS
 use crate::circuit_file::{load_circuit, load_file};
 use crate::refusal::Refusal;
 use bristol_reader::Circuit;
-use command_words::{Ask, AuditAsk, BitsWord, Command, EvalAsk, ProveAsk, RehearseAsk, ServeAsk};
+use command_words::{
+    Ask, AuditAsk, BitsWord, Command, EvalAsk, ProveAsk, RehearseAsk, ServeAsk, ServeNodeAsk,
+};
 use std::alloc::{AllocError, Global};
 use zk_port::Shelf;
 
@@ -283,5 +285,13 @@ pub fn read_given<F: Shelf>(
         Ask::Migrate(ask) => Ok(Ask::Migrate(ask)),
         Ask::Status(ask) => Ok(Ask::Status(ask)),
         Ask::Node(ask) => Ok(Ask::Node(ask)),
+        Ask::Broker(ask) => Ok(Ask::Broker(ask)),
+        Ask::ServeNode(ask) => {
+            let wanted = WantedBits::Outputs;
+            let outputs = word_bits(alloc, shelf, ask.outputs, wanted, &ask.circuit)?;
+            Ok(Ask::ServeNode(
+                known!(ServeNodeAsk; ask; address, broker, file, circuit, node, sessions, timeout, follow; outputs),
+            ))
+        }
     }
 }

@@ -8,6 +8,7 @@ mod circuit_file;
 mod deal_command;
 mod dealt_file;
 mod eval_command;
+mod following;
 mod given_bits;
 mod journal_file;
 mod laws;
@@ -22,6 +23,7 @@ pub use circuit_file::{
 pub use deal_command::run_deal;
 pub use dealt_file::{load_prover, load_verifier};
 pub use eval_command::run_eval;
+pub use following::{Unheard, say_broker_start, say_start};
 pub use given_bits::read_given;
 pub use journal_file::{node_journal_name, open_ceilings, open_claims, open_node_claims};
 pub use laws::journals_stay_tidy;

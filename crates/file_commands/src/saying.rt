@@ -96,7 +96,7 @@ fn write_stop(alloc: Global, stop: Refusal) -> Result<String, AllocError>
         Refusal::Usage => {
             String::from_str(
                 alloc,
-                "usage: zk deal, eval, rehearse, prove, serve, serve-many, migrate, status, rehearse-arith, prove-arith, serve-arith, audit-arith, node or audit\n",
+                "usage: zk deal, eval, rehearse, prove, serve, serve-many, migrate, status, rehearse-arith, prove-arith, serve-arith, audit-arith, node, broker, serve-node or audit\n",
             )
         }
         Refusal::BadText(fault) => write_fault(alloc, fault),

@@ -3,7 +3,8 @@ ghost use Rattle.std.specs.Prelude.{◌≤◌};
 
 use crate::given::{Files, dealt, new_journal};
 use crate::peers::HonestPeer;
-use broker_command::{BrokerAsk, run_broker};
+use broker_command::run_broker;
+use command_words::BrokerAsk;
 use file_commands::{load_claimed, load_verifier, open_node_claims};
 use memory_ports::{FailAt, MemoryDoor, MemorySink, NoFault, ScriptedLink};
 use node_sessions::serve_node;
@@ -48,8 +49,19 @@ fn brokered<R: Threads + Wait + Sync>(
         file: String::from_str(alloc, "x.verifier")?,
         asks,
         timeout: 60,
+        follow: false,
     };
-    let end = run_broker(rt, alloc, &mut shelf, journal, door, &mut out, &ask);
+    let mut notices = MemorySink::new(alloc, NoFault);
+    let end = run_broker(
+        rt,
+        alloc,
+        &mut shelf,
+        journal,
+        door,
+        &mut out,
+        &mut notices,
+        &ask,
+    );
     Ok((end.status, out.bytes().to_vec(alloc)?))
 }
 

@@ -51,3 +51,7 @@ TableIs =
     × HasWords (codes "migrate") (codes "SIDE" ∷ codes "FILE" ∷ []) [] []
     × HasWords (codes "status") (codes "FILE" ∷ codes "CIRCUIT" ∷ []) ((codes "node", None) ∷ []) []
     × HasWords (codes "node") (codes "FILE" ∷ codes "K" ∷ []) [] []
+    × HasWords (codes "broker") (codes "ADDRESS" ∷ codes "FILE" ∷ []) ((codes "asks", None) ∷ (codes "timeout", Some (codes "120")) ∷ [])
+    (codes "follow" ∷ [])
+    × HasWords (codes "serve-node") (codes "ADDRESS" ∷ codes "BROKER" ∷ codes "FILE" ∷ codes "CIRCUIT" ∷ codes "OUTPUTS" ∷ [])
+    ((codes "node", None) ∷ (codes "sessions", None) ∷ (codes "timeout", Some (codes "120")) ∷ []) (codes "follow" ∷ [])

@@ -42,7 +42,8 @@
 //!
 //! What a run of the program is given; `x.prover` and `x.verifier` are the dealt files, the circuit stands under its name, and the disk
 //! has the journal of one of the files, of which it tells nothing: the prover's where the words begin with `prove`, `prove-arith` or
-//! `migrate,prover`, else the verifier's. Behind a journal of one area it has room for one of two.
+//! `migrate,prover`, one of the same kind where they have `--node`, else the verifier's. Behind a journal of one area it has room for one of
+//! two.
 //!
 //! | Word | What it says | Else |
 //! |---|---|---|
@@ -77,15 +78,19 @@
 //! |---|---|---|
 //! | `sessions=N`, `workers=W`, `logs=PREFIX` | the values of these options | 1, none, none |
 //! | `follow=1` | the service is followed | it is not |
+//! | `node=K` | the service is that of `serve-node`, of this node, in sections of 2^20 | it is not |
+//! | `brokers=HEX,HEX..` | what the brokers send to which a node connects, one after another, `-` for nothing | none |
 //! | `peers=N` | how many peers call | 1 |
-//! | `peer=N` | the number of the peer that the words are about, counted from 0 | 0 |
+//! | `peer=N` | the number of the peer that the words are about, counted from 0; brokers count behind those who call | 0 |
 //!
 //! The peer of a proof is an honest verifier that grants units from `start` on, but for what the words of its bytes and of its link say.
-//! The peers of a run of any words, who call or, in a proof, are called, are stated: `calls=HEX,HEX..` has what each sends, and the words of
-//! a peer's bytes and of its link are about one of them.
+//! The peers of a run of any words, who call or, in a proof, are called, are stated: `calls=HEX,HEX..` has what each sends, `-` for nothing, and
+//! `brokers` likewise, and the words of a peer's bytes and of its link are about one of them.
 //!
 //! A line of a run has its number, where there is a range; the status; what is written, and what is said to who follows it; what is handed back, with the outcome, the units
-//! and the log of each session; and the files that are shown.
+//! and the log of each session, or the outcome and the log of each want; and the files that are shown. Behind a session of a node stands each
+//! try to get units: the reply, of a Block its node, number, first unit and count, of an Out its node, number and place, or how it ended; how
+//! many bytes each side sent in a row; and eight bytes of SHA-256 of them.
 //!
 //! A line of a rehearsal has the verdict, the units that it took, and its log; that of an audit what is found, or why nothing is.
 //!

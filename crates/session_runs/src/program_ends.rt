@@ -15,6 +15,13 @@ use std::sync::Wait;
 use std::thread::Threads;
 use zk_port::Link;
 
+/// What those send who call at the door, or are called in a proof, and the brokers to which a node connects.
+#[derive(Clone, Copy)]
+struct Scripts<'a> {
+    callers: &'a [Vec<u8>],
+    brokers: &'a [Vec<u8>],
+}
+
 /// A scenario, its public bits, and the outputs that are claimed in it.
 #[derive(Clone, Copy)]
 pub struct Claimed<'a, 'b> {
@@ -56,6 +63,12 @@ fn service_line_of(alloc: Global, claimed: &Claimed<'_, '_>) -> Result<String> {
     };
     if claimed.offers_many() {
         return Ok(format!(in alloc; "serve-many,here,x.verifier,statements,--section,{section}")?);
+    }
+    let node = claimed.scenario.service.node;
+    if !node.is_empty() {
+        return Ok(format!(in alloc;
+            "serve-node,here,there,x.verifier,{circuit},{outputs},--node,{node}"
+        )?);
     }
     Ok(format!(in alloc; "serve,here,x.verifier,{circuit},{outputs},--section,{section}")?)
 }
@@ -103,24 +116,28 @@ fn peer_link(
     link_of(alloc, honest.to_vec(alloc)?, NOTHING_REFUSED, 4096)
 }
 
-/// A door at which these peers call, or where the words are those of a proof, to which it connects: the one of the stated number does what
-/// is stated, and the others are honest.
+/// A door at which these peers call, or where the words are those of a proof, to which it connects, as it does to the brokers: the one of the
+/// stated number does what is stated, where brokers count behind those who call, and the others do as they are said to.
 fn peers_door(
     alloc: Global,
     scenario: &Scenario<'_>,
-    honest: &[Vec<u8>],
+    scripts: Scripts<'_>,
     words: &[String],
     stated: &Case,
 ) -> Result<Peers> {
     let mut door = empty_door(alloc, scenario)?;
     let connects = is_proof(words);
-    for (number, script) in honest.iter().enumerate() {
+    for (number, script) in scripts.callers.iter().enumerate() {
         let link = peer_link(alloc, scenario, number, script, stated)?;
         if connects {
             door.call(link)?;
         } else {
             door.wait(link)?;
         }
+    }
+    for (place, script) in scripts.brokers.iter().enumerate() {
+        let number = scripts.callers.len().saturating_add(place);
+        door.call(peer_link(alloc, scenario, number, script, stated)?)?;
     }
     Ok(door)
 }
@@ -130,15 +147,29 @@ fn stated_lines<R: Threads + Wait + Sync>(
     rt: &R,
     alloc: Global,
     scenario: &Scenario<'_>,
-    honest: &[Vec<u8>],
+    scripts: Scripts<'_>,
     words: &[String],
     stated: &Case,
 ) -> Result<String> {
     let doors = Doors {
-        first: peers_door(alloc, scenario, honest, words, stated)?,
-        again: peers_door(alloc, scenario, honest, words, stated)?,
+        first: peers_door(alloc, scenario, scripts, words, stated)?,
+        again: peers_door(alloc, scenario, scripts, words, stated)?,
     };
     run_lines(rt, alloc, scenario, &stated.name, doors, words)
+}
+
+/// What the peer of this number sends, if there is one: brokers count behind those who call.
+fn script_at<'a>(scripts: Scripts<'a>, number: usize) -> &'a [u8] {
+    if let Some(script) = scripts.callers.get(number) {
+        return script.as_slice();
+    }
+    match scripts
+        .brokers
+        .get(number.saturating_sub(scripts.callers.len()))
+    {
+        Some(script) => script.as_slice(),
+        None => &[],
+    }
 }
 
 /// The lines of runs of these words, with these peers: of each its honest bytes.
@@ -149,13 +180,15 @@ fn peers_lines<R: Threads + Wait + Sync>(
     honest: &[Vec<u8>],
     words: &[String],
 ) -> Result<String> {
-    let script = match honest.get(scenario.service.peer as usize) {
-        Some(script) => script.as_slice(),
-        None => &[],
+    let brokers = stated_scripts(alloc, scenario.service.brokers)?;
+    let scripts = Scripts {
+        callers: honest,
+        brokers: &brokers,
     };
+    let script = script_at(scripts, scenario.service.peer as usize);
     let mut lines = String::new(alloc);
     for stated in &cases_of(alloc, &scenario.peer, script)? {
-        lines.push_str(&stated_lines(rt, alloc, scenario, honest, words, stated)?)?;
+        lines.push_str(&stated_lines(rt, alloc, scenario, scripts, words, stated)?)?;
     }
     Ok(lines)
 }
@@ -196,11 +229,12 @@ pub fn proof_lines<R: Threads + Wait + Sync>(
     peers_lines(rt, alloc, claimed.scenario, &peers, &words)
 }
 
-/// What peers send, in hex, with commas between.
-fn called_scripts(alloc: Global, calls: &str) -> Result<Vec<Vec<u8>>> {
+/// What peers send, in hex, or `-` for nothing, with commas between.
+fn stated_scripts(alloc: Global, calls: &str) -> Result<Vec<Vec<u8>>> {
     let mut scripts = Vec::new(alloc);
     for script in calls.split(',').filter(|script| !script.is_empty()) {
-        scripts.push(hex::decode(alloc, script)?)?;
+        let bytes = if script == "-" { "" } else { script };
+        scripts.push(hex::decode(alloc, bytes)?)?;
     }
     Ok(scripts)
 }
@@ -212,6 +246,6 @@ pub fn words_lines<R: Threads + Wait + Sync>(
     scenario: &Scenario<'_>,
 ) -> Result<String> {
     let words = words_of(alloc, scenario, scenario.outside.words)?;
-    let scripts = called_scripts(alloc, scenario.service.calls)?;
+    let scripts = stated_scripts(alloc, scenario.service.calls)?;
     peers_lines(rt, alloc, scenario, &scripts, &words)
 }

@@ -1,11 +1,15 @@
 // Runs of the program over files, an output, a door and a journal's disk in memory.
 use crate::given::{Given, given_again, given_of};
 use crate::piece_link::{PieceLink, plan_of};
-use crate::say::{Bits, Ending, Hex, Logged, Units, prover_ending, verifier_ending};
+use crate::say::{
+    Bits, Ending, Exchanged, Hex, Logged, Tried, Units, prover_ending, verifier_ending,
+};
 use crate::scenario::{NO_REFUSED_CALLS, RefusedCalls, Scenario};
 use crate::sessions::SEED;
 use anyhow::{Error, Result};
+use broker_links::{BrokerNote, Try};
 use frame_link::Log;
+use lease_store::LeaseFault;
 use memory_ports::{FailAt, Leftover, MemoryDoor, MemoryShelf, MemorySink, NoFault, QuietDisk};
 use session_prover::ProverNote;
 use session_verifier::SessionNote;
@@ -47,7 +51,38 @@ impl fmt::Display for HandedBack<'_> {
                 }
                 Ok(())
             }
+            Part::Brokered(notes) => {
+                write!(f, "brokered")?;
+                for note in notes {
+                    write!(f, " {}", brokered(note))?;
+                }
+                Ok(())
+            }
         }
+    }
+}
+
+/// What came of an exchange with a node: how it ended, and its log.
+#[derive(Clone, Copy)]
+struct Brokered<'a> {
+    ended: Exchanged<'a>,
+    log: &'a Log,
+}
+
+impl fmt::Display for Brokered<'_> {
+    fn fmt<W: fmt::Write>(&self, f: &mut fmt::Formatter<W>) -> fmt::Result {
+        let ended = self.ended;
+        let log = Logged { log: self.log };
+        write!(f, "{ended} {log}")
+    }
+}
+
+fn brokered(note: &BrokerNote<PieceLink, LeaseFault>) -> Brokered<'_> {
+    Brokered {
+        ended: Exchanged {
+            outcome: &note.outcome,
+        },
+        log: &note.log,
     }
 }
 
@@ -87,12 +122,13 @@ impl fmt::Display for RehearsedElements<'_> {
     }
 }
 
-/// What came of a session: how it ended, the units that it was granted, and its log.
+/// What came of a session: how it ended, the units that it was granted, its log, and the tries to get its units of a broker.
 #[derive(Clone, Copy)]
 struct Led<'a> {
     ended: Ending,
     granted: Option<Span>,
     log: &'a Log,
+    tries: &'a [Try<PieceLink>],
 }
 
 impl fmt::Display for Led<'_> {
@@ -100,7 +136,12 @@ impl fmt::Display for Led<'_> {
         let ended = self.ended;
         let units = Units { span: self.granted };
         let log = Logged { log: self.log };
-        write!(f, "{ended} units={units} {log}")
+        write!(f, "{ended} units={units} {log}")?;
+        for made in self.tries {
+            let tried = Tried { made };
+            write!(f, " {tried}")?;
+        }
+        Ok(())
     }
 }
 
@@ -112,6 +153,7 @@ fn proved(note: &ProverNote<PieceLink>) -> Led<'_> {
         ended,
         granted,
         log,
+        tries: &[],
     }
 }
 
@@ -121,6 +163,7 @@ fn served(note: &SessionNote<PieceLink>) -> Led<'_> {
         ended: verifier_ending(note.outcome),
         granted: note.granted,
         log: &note.log,
+        tries: &note.tries,
     }
 }
 
@@ -310,9 +353,10 @@ pub fn is_proof(words: &[String]) -> bool {
     first == "prove" || first == "prove-arith"
 }
 
-/// The kind of the journal that the disk has: proofs, `migrate prover` and `status` of a prover's file are about the prover's.
+/// The kind of the journal that the disk has: proofs, `migrate prover` and `status` of a prover's file are about the prover's, and what is said
+/// of a node is about one of the same kind.
 fn kind_of(words: &[String]) -> JournalKind {
-    let proves = is_proof(words);
+    let proves = is_proof(words) || words.iter().any(|word| word.as_str() == "--node");
     let mut words = words.iter();
     let first = words.next().map_or("", String::as_str);
     let second = words.next().map_or("", String::as_str);

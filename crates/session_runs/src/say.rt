@@ -1,13 +1,15 @@
 // What came of a session, in words.
 use crate::piece_link::PieceLink;
+use broker_links::{BrokerOutcome, Reply, Try, TryOutcome};
 use frame_link::Log;
+use lease_store::LeaseFault;
 use mersenne_field::Fe;
 use session_core::{Digests, HelloDiffers};
 use session_prover::ProverOutcome;
 use session_verifier::VerifierOutcome;
 use sha2::{Digest, Sha256};
 use std::fmt;
-use zk_model::{Side, Span, Verdict};
+use zk_model::{Block, Out, Side, Span, Verdict, Want};
 use zk_port::Link;
 
 /// Bytes, in hex.
@@ -226,6 +228,107 @@ pub fn prover_ending(outcome: ProverOutcome) -> Ending {
     }
 }
 
+/// How an exchange with a node ended for a broker.
+#[derive(Clone, Copy)]
+pub struct Exchanged<'a> {
+    pub outcome: &'a BrokerOutcome<LeaseFault>,
+}
+
+/// The want that was answered, and with what.
+fn write_answered<W: fmt::Write>(
+    f: &mut fmt::Formatter<W>,
+    want: Want,
+    reply: Reply,
+) -> fmt::Result {
+    let Want {
+        node,
+        number,
+        count,
+    } = want;
+    write!(f, "answered want={node},{number},{count} ")?;
+    match reply {
+        Reply::Block(block) => {
+            let start = block.start;
+            let end = start.saturating_add(u64::from(block.count));
+            write!(f, "block={start}..{end}")
+        }
+        Reply::Out(out) => {
+            let at = out.at;
+            write!(f, "out={at}")
+        }
+    }
+}
+
+/// How a lease was refused.
+fn lease_ending(fault: LeaseFault) -> Ending {
+    match fault {
+        LeaseFault::Exhausted { at, count, total } => named(
+            "exhausted",
+            with_label("at", at),
+            with_label("count", u64::from(count)),
+            with_label("total", total),
+        ),
+        LeaseFault::Device => bare("device"),
+        LeaseFault::Broken { first } => single("broken", "first", first),
+    }
+}
+
+impl fmt::Display for Exchanged<'_> {
+    fn fmt<W: fmt::Write>(&self, f: &mut fmt::Formatter<W>) -> fmt::Result {
+        let ending = match self.outcome {
+            BrokerOutcome::Answered(want, reply) => return write_answered(f, *want, *reply),
+            BrokerOutcome::PeerEnded { at } => single("peer-ended", "at", *at),
+            BrokerOutcome::BadFrame { place } => single("bad-frame", "place", *place),
+            BrokerOutcome::Link => bare("link"),
+            BrokerOutcome::NoMemory => bare("no-memory"),
+            BrokerOutcome::Refused(fault) => lease_ending(*fault),
+        };
+        write!(f, "{ending}")
+    }
+}
+
+/// A try of a node to get units of its broker: how it ended, how many bytes each side sent in a row, and the first eight bytes of SHA-256 of
+/// all of them.
+#[derive(Clone, Copy)]
+pub struct Tried<'a> {
+    pub made: &'a Try<PieceLink>,
+}
+
+/// The reply that came, or how a try ended without.
+fn write_try<W: fmt::Write>(f: &mut fmt::Formatter<W>, outcome: TryOutcome) -> fmt::Result {
+    match outcome {
+        TryOutcome::Block(block) => {
+            let Block {
+                node,
+                number,
+                start,
+                count,
+            } = block;
+            write!(f, "block={node},{number},{start},{count}")
+        }
+        TryOutcome::Out(out) => {
+            let Out { node, number, at } = out;
+            write!(f, "out={node},{number},{at}")
+        }
+        TryOutcome::PeerEnded { at } => write!(f, "peer-ended at={at}"),
+        TryOutcome::BadFrame { place } => write!(f, "bad-frame place={place}"),
+        TryOutcome::Link => write!(f, "link"),
+        TryOutcome::NoMemory => write!(f, "no-memory"),
+    }
+}
+
+impl fmt::Display for Tried<'_> {
+    fn fmt<W: fmt::Write>(&self, f: &mut fmt::Formatter<W>) -> fmt::Result {
+        write!(f, "try ")?;
+        write_try(f, self.made.outcome)?;
+        write_runs(f, &self.made.log)?;
+        let digest = Sha256::digest(self.made.log.bytes());
+        let (front, _) = digest.split_at(8);
+        let front = Hex { bytes: front };
+        write!(f, " #{front}")
+    }
+}
+
 /// The verdict of a rehearsal.
 #[derive(Clone, Copy)]
 pub struct Judged {
@@ -283,16 +386,22 @@ pub struct Logged<'a> {
     pub log: &'a Log,
 }
 
+/// How many bytes each side sent in a row.
+fn write_runs<W: fmt::Write>(f: &mut fmt::Formatter<W>, log: &Log) -> fmt::Result {
+    for run in log.runs() {
+        let count = run.count;
+        match run.side {
+            Side::Prover => write!(f, " p{count}")?,
+            Side::Verifier => write!(f, " v{count}")?,
+        }
+    }
+    Ok(())
+}
+
 impl fmt::Display for Logged<'_> {
     fn fmt<W: fmt::Write>(&self, f: &mut fmt::Formatter<W>) -> fmt::Result {
         write!(f, "log")?;
-        for run in self.log.runs() {
-            let count = run.count;
-            match run.side {
-                Side::Prover => write!(f, " p{count}")?,
-                Side::Verifier => write!(f, " v{count}")?,
-            }
-        }
+        write_runs(f, self.log)?;
         let count = self.log.bytes().len();
         let digest = Sha256::digest(self.log.bytes());
         let digest = Hex { bytes: &digest };

@@ -140,16 +140,19 @@ pub struct Outside<'a> {
     pub show: &'a str,
 }
 
-/// What a service is asked for: the words of its options, which are not among its words where they are empty; how many peers call; what
-/// those of a run of any words send, in hex; and the number of the one whose bytes and link are stated, counted from 0.
+/// What a service is asked for: the words of its options, which are not among its words where they are empty, and the number of the node as
+/// which it serves; how many peers call; what those of a run of any words send, in hex, and the brokers to which a node connects; and the
+/// number of the one whose bytes and link are stated, counted from 0.
 #[derive(Clone, Copy)]
 pub struct Service<'a> {
     pub sessions: &'a str,
     pub workers: &'a str,
     pub logs: &'a str,
+    pub node: &'a str,
     pub follows: bool,
     pub peers: u64,
     pub calls: &'a str,
+    pub brokers: &'a str,
     pub peer: u64,
 }
 
@@ -244,9 +247,11 @@ fn plain(end: End) -> Scenario<'static> {
             sessions: "1",
             workers: "",
             logs: "",
+            node: "",
             follows: false,
             peers: 1,
             calls: "",
+            brokers: "",
             peer: 0,
         },
     }
@@ -432,9 +437,11 @@ fn set_service<'a>(scenario: &mut Scenario<'a>, name: &str, value: &'a str) -> R
         "sessions" => scenario.service.sessions = value,
         "workers" => scenario.service.workers = value,
         "logs" => scenario.service.logs = value,
+        "node" => scenario.service.node = value,
         "follow" => scenario.service.follows = number(value)? == 1,
         "peers" => scenario.service.peers = number(value)?,
         "calls" => scenario.service.calls = value,
+        "brokers" => scenario.service.brokers = value,
         "peer" => scenario.service.peer = number(value)?,
         _ => set_outside(&mut scenario.outside, name, value)?,
     }

@@ -24,7 +24,7 @@ pub use laws::{shown_is_accepted, shown_is_found, shown_solves};
 pub use lead::lead_session;
 pub use log_desk::{KeptLogs, LogDesk, LogKeeper, LogLoan, Watch};
 pub use note::{SessionNote, VerifierOutcome};
-pub use note_lines::order_notes;
+pub use note_lines::{order_notes, write_note};
 pub use service_logs::LogFaults;
 pub use service_said::say_service;
 pub use verification::Verification;

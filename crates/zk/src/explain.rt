@@ -38,6 +38,14 @@ pub fn explain(rt: &HostRuntime, shelf: &FileShelf<&HostRuntime>, finish: &Ended
         Part::Served(notes) => {
             for note in notes {
                 say_link(rt, &note.link);
+                for made in &note.tries {
+                    say_link(rt, &made.link);
+                }
+            }
+        }
+        Part::Brokered(notes) => {
+            for note in notes {
+                say_link(rt, &note.link);
             }
         }
         _ => {}

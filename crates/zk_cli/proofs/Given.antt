@@ -2,13 +2,14 @@
 use Rattle.std.proofs.Common.{◌≡◌, ◌⊎◌, ◌≤◌, ◌-◌, ℕ, List, [], length, nat_le, Bool, true, false, if◌then◌else◌, refl, ap, subst, inl, inr, arith}
 use Rattle.zk_model.specs.Circuit.{Circuit}
 use Rattle.zk_port.specs.Changes.{Change, change}
+use Rattle.zk_port.specs.Disks.{DiskState}
 use Rattle.zk_port.specs.Doors.{DoorState}
 use Rattle.zk_port.specs.Links.{LinkState}
 use Rattle.zk_port.specs.Shelves.{ShelfState}
 use Rattle.command_words.specs.BitWords.{Bits, BitsAsk, said, named}
 use Rattle.command_words.specs.Words.{Ask}
-use Rattle.command_words.specs.declared.asks.Ask.TheVariants.{Rehearse as rehearse, Generate as generate, RehearseArith as rehearse_arith, Eval as eval, Deal as deal, Serve as serve, ServeMany as serve_many, ServeArith as serve_arith, Prove as prove, ProveArith as prove_arith, Audit as audit, AuditArith as audit_arith, Migrate as migrate, Status as status, Node as node}
-use Rattle.claim_files.specs.Services.{service_asked, service_of_arith}
+use Rattle.command_words.specs.declared.asks.Ask.TheVariants.{Rehearse as rehearse, Generate as generate, RehearseArith as rehearse_arith, Eval as eval, Deal as deal, Serve as serve, ServeMany as serve_many, ServeArith as serve_arith, Prove as prove, ProveArith as prove_arith, Audit as audit, AuditArith as audit_arith, Migrate as migrate, Status as status, Node as node, Broker as broker, ServeNode as serve_node}
+use Rattle.claim_files.specs.Services.{service_asked, service_of_arith, service_of_node}
 use Rattle.proof_audit.specs.AuditRuns.{Audits}
 use Rattle.proof_audit.specs.NamedAudits.{audit_asked, audit_of_arith}
 use Rattle.status_command.specs.StatusRuns.{Reports}
@@ -26,6 +27,8 @@ use Rattle.zk_cli.specs.ManyRuns.{ServesMany}
 use Rattle.zk_cli.specs.Meets.{DoesGiven, IsLocal, LacksBits, Meets, Promises, follows}
 use Rattle.node_command.specs.NodeRuns.{MakesNode}
 use Rattle.prove_command.specs.Proofs.{proof_asked, proof_of_arith}
+use Rattle.zk_cli.specs.BrokeredParts.{BrokersPart}
+use Rattle.zk_cli.specs.NodeServiceRuns.{ServesNode, place_asked}
 use Rattle.zk_cli.specs.ProvedParts.{ProvesPart}
 use Rattle.zk_cli.specs.ArithRuns.{RehearsesArith}
 use Rattle.zk_cli.specs.RehearseRuns.{Generates, Rehearses}
@@ -83,6 +86,8 @@ module _ (why : Refusal) (low : stop_status why ≤ 2) (unloaded : (name : List 
   given_is_high (audit_arith ask) shelf (inr cause) = absurd cause
   given_is_high (migrate ask) shelf (inr cause) = absurd cause
   given_is_high (status ask) shelf (inr cause) = absurd cause
+  given_is_high (broker ask) shelf (inr cause) = absurd cause
+  given_is_high (serve_node ask) shelf (inr cause) = word_is_high ask.circuit Outputs ask.outputs shelf cause
 
 given_unused : (ask : Ask BitsAsk) (shelf : ShelfChange) → GivenStop ask shelf stop.Usage → ⊥
 given_unused ask shelf cause = given_is_high stop.Usage (omega arith) (λ name s load. load) (λ name s none. none) ask shelf cause
@@ -93,12 +98,12 @@ given_high ask shelf (stop.Unsatisfied output) cause =
 given_high ask shelf other cause = tt
 
 -- a run that says why
-pub lacks_bits : {F L B D : Type 0} (shelf_tells : F → ShelfState) (door_tells : D → DoorState) (link_tells : L → LinkState) (ask : Ask BitsAsk)
+pub lacks_bits : {F L B D : Type 0} (shelf_tells : F → ShelfState) (door_tells : D → DoorState) (link_tells : L → LinkState) (disk_tells : B → DiskState) (ask : Ask BitsAsk)
     (why : Refusal) (answer : ℕ) (sink : SinkChange) (old new : F) (journal : B) (links : D)
     → GivenStop ask (change (shelf_tells old) (shelf_tells new)) why → OnlyLoads (IsGivenName ask) (change (shelf_tells old) (shelf_tells new))
     → PrintsMade (stop_status why) (stop_line why) answer sink
-    → LacksBits ask (run_of shelf_tells door_tells link_tells answer Plain (change old new) sink (change journal journal) (change links links))
-lacks_bits shelf_tells door_tells link_tells ask why answer sink old new journal links cause kept prints =
+    → LacksBits ask (run_of shelf_tells door_tells link_tells disk_tells answer Plain (change old new) sink (change journal journal) (change links links))
+lacks_bits shelf_tells door_tells link_tells disk_tells ask why answer sink old new journal links cause kept prints =
     let shelf = change (shelf_tells old) (shelf_tells new) in
     record {
       says = record { stop = why; cause = cause; prints = prints };
@@ -122,11 +127,11 @@ does_two ask seed disk run (inr lacks) two = lacks_two ask run lacks two
 
 -- ---- a run after files were read that left the shelf as it was
 
-module _ {F L B D : Type 0} (shelf_tells : F → ShelfState) (door_tells : D → DoorState) (link_tells : L → LinkState) (answer : ℕ) (part : Part L)
+module _ {F L B D : Type 0} (shelf_tells : F → ShelfState) (door_tells : D → DoorState) (link_tells : L → LinkState) (disk_tells : B → DiskState) (answer : ℕ) (part : Part L)
     (sink : SinkChange) (journal : Change B) (links : Change D) (seed : List ℕ) (disk : DiskChange) (old mid new : F)
     (same : shelf_tells mid ≡ shelf_tells old) where
   abbrev run_from : F → Run F L B D
-  run_from start = run_of shelf_tells door_tells link_tells answer part (change start new) sink journal links
+  run_from start = run_of shelf_tells door_tells link_tells disk_tells answer part (change start new) sink journal links
 
   -- what holds of what it did holds on
   held : (P : Effects → Type 0) → P (effects answer (change (shelf_tells mid) (shelf_tells new)) sink)
@@ -152,12 +157,15 @@ module _ {F L B D : Type 0} (shelf_tells : F → ShelfState) (door_tells : D →
   meets_on (serve_arith ask) meets = held (λ run. Serves link_tells (service_of_arith ask) part disk (run_from old).door run) meets
   meets_on (prove ask) meets = held (λ run. ProvesPart link_tells (proof_asked ask) part disk (run_from old).door run) meets
   meets_on (prove_arith ask) meets = held (λ run. ProvesPart link_tells (proof_of_arith ask) part disk (run_from old).door run) meets
+  meets_on (broker ask) meets = held (λ run. BrokersPart link_tells disk_tells ask part disk (run_from old).door run) meets
+  meets_on (serve_node ask) meets =
+      held (λ run. ServesNode link_tells disk_tells (service_of_node ask) (place_asked ask) part journal (run_from old).door run) meets
 
   pub promises_on : (ask : Ask Bits) → Promises ask seed disk (run_from mid) → Promises ask seed disk (run_from old)
   promises_on ask promises = record {
     meets = meets_on ask promises.meets;
     headline = subst (λ (s : ShelfState). ShowsClaims s.told ask part) same promises.headline;
-    once = subst (λ (s : ShelfState). GrantsOnceIn s.told ask part disk) same promises.once;
+    once = subst (λ (s : ShelfState). GrantsOnceIn disk_tells s.told ask part journal) same promises.once;
   }
 
 -- a run says nothing beside the output, or a service is asked for that says how it goes

@@ -12,3 +12,6 @@ pub mod RehearseOutcomes
 pub mod ServeDone
 pub mod ServeOutcomes
 pub mod Serving
+pub mod NodeDone
+pub mod NodeLed
+pub mod NodeServing

@@ -28,7 +28,7 @@ use Rattle.file_commands.specs.Stops.{IsVerifierFileAt}
 use Rattle.file_commands.specs.declared.refusal.Refusal.{Refusal}
 use Rattle.file_commands.specs.declared.refusal.Refusal.TheVariants as stop
 use Rattle.file_commands.proofs.Journals.{untouched}
-use Rattle.zk_cli.specs.ServeRuns.{AreServeJobs, FitStop, IsClaimsName, IsFirstTooLarge, IsServeJob, LacksClaim, ServeStop}
+use Rattle.zk_cli.specs.ServeRuns.{AreServeJobs, FitStop, IsClaimsName, IsFirstTooLarge, IsServeJob, LacksClaim, OpenedJournal, StopsService}
 use Rattle.zk_cli.proofs.Pairs.{zip_length, zip_map, zip_push}
 use Rattle.zk_cli.proofs.Serving.{loads_claim}
 
@@ -130,9 +130,9 @@ first_lacks [] shelf some = absurd (omega (arith, some))
 first_lacks (claim ∷ claims) shelf some =
     record { before = []; claim = claim; behind = claims; are = refl; had = All-nil (HasStatement shelf.old.told); cause = memory_lacks claim shelf }
 
-pub lacks_memory : (service : Service) (shelf : ShelfChange) (disk : DiskState) (door : DoorState) → 1 ≤ length service.claims
-    → ServeStop service shelf (disk_change disk disk) (change door door) stop.NoMemory
-lacks_memory service shelf disk door some = inl (inl (first_lacks service.claims shelf some), untouched disk, refl)
+pub lacks_memory : (journal : OpenedJournal) (service : Service) (shelf : ShelfChange) (disk : DiskState) (door : DoorState) → 1 ≤ length service.claims
+    → StopsService journal service shelf (disk_change disk disk) (change door door) stop.NoMemory
+lacks_memory journal service shelf disk door some = inl (inl (first_lacks service.claims shelf some), untouched disk, refl)
 
 -- the job about a statement, over the file
 abbrev pub job_over : Service → VerifierFile → Statement → VerifierJob
@@ -204,11 +204,11 @@ some_jobs [] some = absurd (omega (arith, some))
 some_jobs (job ∷ jobs) some = (record { first = job; others = jobs }, refl)
 
 -- where jobs are not made, nothing is served
-pub lacks_jobs : (service : Service) (shelf : ShelfChange) (disk : DiskState) (door : DoorState) (file : VerifierFile) (statements : List Statement)
+pub lacks_jobs : (journal : OpenedJournal) (service : Service) (shelf : ShelfChange) (disk : DiskState) (door : DoorState) (file : VerifierFile) (statements : List Statement)
     → IsVerifierFileAt shelf.old.told service.file file → AllZip (IsStatementOf shelf.old.told) service.claims statements
     → 1 ≤ length service.claims → length service.claims ≤ MAX_STATEMENTS → AreOfOneKind service.claims → (why : Refusal)
-    → FitStop (map (job_over service file) statements) why → ServeStop service shelf (disk_change disk disk) (change door door) why
-lacks_jobs service shelf disk door file statements at zip some few one (stop.TooLarge need units) cause =
+    → FitStop (map (job_over service file) statements) why → StopsService journal service shelf (disk_change disk disk) (change door door) why
+lacks_jobs journal service shelf disk door file statements at zip some few one (stop.TooLarge need units) cause =
     let size = length-map statements (job_over service file) in
     let same = zip_length (IsStatementOf shelf.old.told) service.claims statements zip in
     let made = some_jobs (map (job_over service file) statements) (omega (arith, size, same, some)) in
@@ -221,8 +221,8 @@ lacks_jobs service shelf disk door file statements at zip some few one (stop.Too
         refl,
       ),
     )
-lacks_jobs service shelf disk door file statements at zip some few one stop.NoMemory cause = lacks_memory service shelf disk door some
-lacks_jobs service shelf disk door file statements at zip some few one other cause = absurd cause
+lacks_jobs journal service shelf disk door file statements at zip some few one stop.NoMemory cause = lacks_memory journal service shelf disk door some
+lacks_jobs journal service shelf disk door file statements at zip some few one other cause = absurd cause
 
 -- what follows of the value of a result, and of its fault
 pub ok_then : {T E : Type 0} (P Q : T → Type 0) (result : Result T E) → ((value : T) → P value → Q value) → IfOk result P → IfOk result Q

@@ -23,7 +23,7 @@ use Rattle.zk_cli.specs.ManyRuns.{ServesMany, StatementsStop}
 use Rattle.zk_cli.specs.Runs.{EachNote, OfNotes}
 use Rattle.zk_cli.specs.ServeRuns.{HasServeFailed, IsServable, IsWithHonestProver, Serves}
 use Rattle.zk_cli.specs.declared.finish.Part.{Part}
-use Rattle.zk_cli.specs.declared.finish.Part.TheVariants.{Plain, Proved, Rehearsed, RehearsedElements, Served}
+use Rattle.zk_cli.specs.declared.finish.Part.TheVariants.{Brokered, Plain, Proved, Rehearsed, RehearsedElements, Served}
 
 -- what holds of the sessions that are handed back
 pub of_notes : {L : Type 0} (part : Part L) (P Q : List (SessionNote L) → Type 0) → ((notes : List (SessionNote L)) → P notes → Q notes)
@@ -33,6 +33,7 @@ of_notes Plain P Q then holds = tt
 of_notes (Rehearsed r) P Q then holds = tt
 of_notes (RehearsedElements r) P Q then holds = tt
 of_notes (Proved note) P Q then holds = tt
+of_notes (Brokered notes) P Q then holds = tt
 
 -- ---- why there are no claims
 
@@ -68,7 +69,7 @@ serves_none link_tells ask disk door run says kept =
         unheard = refl;
       });
       done = λ service is ready calm quiet honest. (elim answers [
-        | inl e ↦ inr (e ∙ statements_7 ask run.shelf is.0 ready.tells is.1 calm says.stop says.cause)
+        | inl e ↦ inr (e ∙ statements_7 ask run.shelf is.0 ready.files.tells is.1 calm says.stop says.cause)
         | inr seven ↦ inr seven
       ]);
     }
@@ -81,7 +82,7 @@ pub serves_claims : {L : Type 0} (link_tells : L → LinkState) (ask : ServeMany
 serves_claims link_tells ask claims part disk door run named serves = record {
   runs = inl (service_of_many ask claims, (claims, named, refl), serves);
   done = λ service is ready calm quiet honest.
-      let same_text = told_text run.shelf.old.told ask.statements named.text is.1.text ready.tells named.loaded.stands is.1.loaded.stands in
+      let same_text = told_text run.shelf.old.told ask.statements named.text is.1.text ready.files.tells named.loaded.stands is.1.loaded.stands in
       let same : is.0 ≡ claims = one_list named.text is.0 claims (subst (λ text. NamesClaims text is.0) same_text is.1.says) named.says in
       let service_is : service ≡ service_of_many ask claims = is.2 ∙ ap (service_of_many ask) same in
       serves.done (subst (IsServable run.shelf.old.told disk.old) service_is ready)

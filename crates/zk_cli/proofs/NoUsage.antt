@@ -7,8 +7,8 @@ use Rattle.session_prover.specs.declared.note.ProverOutcome.{ProverOutcome}
 use Rattle.session_prover.specs.declared.note.ProverOutcome.TheVariants as ended
 use Rattle.command_words.specs.BitWords.{Bits}
 use Rattle.command_words.specs.Words.{Ask, RehearseArithAsk, ServeManyAsk}
-use Rattle.command_words.specs.declared.asks.Ask.TheVariants.{Rehearse as rehearse, Generate as generate, RehearseArith as rehearse_arith, Eval as eval, Deal as deal, Serve as serve, ServeMany as serve_many, ServeArith as serve_arith, Prove as prove, ProveArith as prove_arith, Audit as audit, AuditArith as audit_arith, Migrate as migrate, Status as status, Node as node}
-use Rattle.claim_files.specs.Services.{Service, service_asked, service_of_arith}
+use Rattle.command_words.specs.declared.asks.Ask.TheVariants.{Rehearse as rehearse, Generate as generate, RehearseArith as rehearse_arith, Eval as eval, Deal as deal, Serve as serve, ServeMany as serve_many, ServeArith as serve_arith, Prove as prove, ProveArith as prove_arith, Audit as audit, AuditArith as audit_arith, Migrate as migrate, Status as status, Node as node, Broker as broker, ServeNode as serve_node}
+use Rattle.claim_files.specs.Services.{Service, service_asked, service_of_arith, service_of_node}
 use Rattle.file_commands.specs.Effects.{DoorChange, Effects, ShelfChange}
 use Rattle.file_commands.specs.Journals.{DiskChange}
 use Rattle.file_commands.specs.Stops.{IsOfStop, StatusMeans, stop_status}
@@ -20,6 +20,7 @@ use Rattle.zk_cli.specs.ArithRuns.{ArithMeans, ArithRehearseStop}
 use Rattle.claim_files.proofs.ClaimCauses.{not_usage}
 use Rattle.zk_cli.specs.ManyRuns.{ServesMany, StatementsStop}
 use Rattle.zk_cli.specs.Meets.{Meets}
+use Rattle.zk_cli.specs.NodeServiceRuns.{claims_journal, place_asked}
 use Rattle.prove_command.specs.BitsProofs.{BitsProofStop}
 use Rattle.prove_command.specs.ElementsProofs.{ElementsProofStop}
 use Rattle.prove_command.specs.NamedProofs.{BitsProof, ElementsProof}
@@ -28,10 +29,10 @@ use Rattle.prove_command.specs.ProveRuns.{ProveMeans, ProveStop, WitnessStop, pr
 use Rattle.prove_command.specs.declared.proof.ProofNames.{ProofNames}
 use Rattle.prove_command.specs.declared.proof.ProofNames.TheVariants as names
 use Rattle.zk_cli.specs.ProvedParts.{ProvesPart}
-use Rattle.zk_cli.specs.Runs.{Run}
-use Rattle.zk_cli.specs.ServeRuns.{ServeMeans, ServeStop}
+use Rattle.zk_cli.specs.Runs.{Run, told_change}
+use Rattle.zk_cli.specs.ServeRuns.{OpenedJournal, ServiceMeans, StopsService, ceilings_journal}
 use Rattle.zk_cli.specs.declared.finish.Part.{Part}
-use Rattle.zk_cli.specs.declared.finish.Part.TheVariants.{Plain, Proved, Rehearsed, RehearsedElements, Served}
+use Rattle.zk_cli.specs.declared.finish.Part.TheVariants.{Brokered, Plain, Proved, Rehearsed, RehearsedElements, Served}
 
 two_is_usage : (why : Refusal) → 2 ≡ stop_status why → why ≡ stop.Usage
 two_is_usage stop.Usage two = refl
@@ -77,30 +78,32 @@ means_two Does Cause IsNamed run (inr (inr (inr (inr (nine, cause))))) two = ome
 
 -- ---- services
 
-serve_unused : (service : Service) (shelf : ShelfChange) (disk : DiskChange) (door : DoorChange) → ServeStop service shelf disk door stop.Usage → ⊥
-serve_unused service shelf disk door (inl (inl lacks, unasked, unheard)) = not_usage lacks.claim shelf lacks.cause
-serve_unused service shelf disk door (inl (inr lacks, unasked, unheard)) = absurd lacks.1
-serve_unused service shelf disk door (inr opening) = elim opening.2.2 [ inl journal ↦ absurd journal.0 | inr unheard ↦ absurd unheard ]
+service_unused : (journal : OpenedJournal) (service : Service) (shelf : ShelfChange) (disk : DiskChange) (door : DoorChange)
+    → StopsService journal service shelf disk door stop.Usage → ⊥
+service_unused journal service shelf disk door (inl (inl lacks, unasked, unheard)) = not_usage lacks.claim shelf lacks.cause
+service_unused journal service shelf disk door (inl (inr lacks, unasked, unheard)) = absurd lacks.1
+service_unused journal service shelf disk door (inr opening) = elim opening.2.2 [ inl cause ↦ absurd cause.0 | inr unheard ↦ absurd unheard ]
 
-serve_two : {L : Type 0} (service : Service) (part : Part L) (disk : DiskChange) (door : DoorChange) (run : Effects)
-    → ServeMeans service part disk door run → run.status ≡ 2 → ⊥
-serve_two service (Served notes) disk door run (inl (zero_is, all)) two = omega (arith, zero_is, two)
-serve_two service (Served notes) disk door run (inr (inl (one, some))) two = omega (arith, one, two)
-serve_two service (Served notes) disk door run (inr (inr (inl (four, some)))) two = omega (arith, four, two)
-serve_two service (Served notes) disk door run (inr (inr (inr (inl five)))) two = let at = five.0 in omega (arith, at, two)
-serve_two service (Served notes) disk door run (inr (inr (inr (inr (inl (six, some)))))) two = omega (arith, six, two)
-serve_two service (Served notes) disk door run (inr (inr (inr (inr (inr seven))))) two = omega (arith, seven, two)
-serve_two service Plain disk door run (inl stopped) two =
-    stop_two (ServeStop service run.shelf disk door) run.status (serve_unused service run.shelf disk door) stopped two
-serve_two service Plain disk door run (inr seven) two = omega (arith, seven, two)
-serve_two service (Rehearsed r) disk door run means two = means
-serve_two service (RehearsedElements r) disk door run means two = means
-serve_two service (Proved note) disk door run means two = means
+service_two : {L : Type 0} (journal : OpenedJournal) (service : Service) (part : Part L) (disk : DiskChange) (door : DoorChange) (run : Effects)
+    → ServiceMeans journal service part disk door run → run.status ≡ 2 → ⊥
+service_two journal service (Served notes) disk door run (inl (zero_is, all)) two = omega (arith, zero_is, two)
+service_two journal service (Served notes) disk door run (inr (inl (one, some))) two = omega (arith, one, two)
+service_two journal service (Served notes) disk door run (inr (inr (inl (four, some)))) two = omega (arith, four, two)
+service_two journal service (Served notes) disk door run (inr (inr (inr (inl five)))) two = let at = five.0 in omega (arith, at, two)
+service_two journal service (Served notes) disk door run (inr (inr (inr (inr (inl (six, some)))))) two = omega (arith, six, two)
+service_two journal service (Served notes) disk door run (inr (inr (inr (inr (inr seven))))) two = omega (arith, seven, two)
+service_two journal service Plain disk door run (inl stopped) two =
+    stop_two (StopsService journal service run.shelf disk door) run.status (service_unused journal service run.shelf disk door) stopped two
+service_two journal service Plain disk door run (inr seven) two = omega (arith, seven, two)
+service_two journal service (Rehearsed r) disk door run means two = means
+service_two journal service (RehearsedElements r) disk door run means two = means
+service_two journal service (Proved note) disk door run means two = means
+service_two journal service (Brokered notes) disk door run means two = means
 
 many_two : {L : Type 0} (link_tells : L → LinkState) (ask : ServeManyAsk) (part : Part L) (disk : DiskChange) (door : DoorChange) (run : Effects)
     → ServesMany link_tells ask part disk door run → run.status ≡ 2 → ⊥
 many_two link_tells ask part disk door run many two = elim many.runs [
-  | inl served ↦ serve_two served.0 part disk door run served.2.means two
+  | inl served ↦ service_two (ceilings_journal served.0) served.0 part disk door run served.2.means two
   | inr lacks ↦ (elim lacks.means [
     | inl stopped ↦ stop_two (StatementsStop ask run.shelf) run.status (λ cause. cause) stopped two
     | inr seven ↦ omega (arith, seven, two)
@@ -207,9 +210,20 @@ command_two (status ask) seed disk run meets two = elim meets.0.statuses [
   | inr (inr (inr (inl five))) ↦ omega (arith, five, two)
   | inr (inr (inr (inr seven))) ↦ omega (arith, seven, two)
 ]
-command_two (serve ask) seed disk run meets two = serve_two (service_asked ask) run.part disk run.door run.effects meets.means two
+command_two (serve ask) seed disk run meets two = service_two (ceilings_journal (service_asked ask)) (service_asked ask) run.part disk run.door run.effects meets.means two
 command_two (serve_many ask) seed disk run meets two = many_two run.link_tells ask run.part disk run.door run.effects meets two
-command_two (serve_arith ask) seed disk run meets two = serve_two (service_of_arith ask) run.part disk run.door run.effects meets.means two
+command_two (serve_arith ask) seed disk run meets two = service_two (ceilings_journal (service_of_arith ask)) (service_of_arith ask) run.part disk run.door run.effects meets.means two
 command_two (prove ask) seed disk run meets two = prove_two run.link_tells (proof_asked ask) run.part disk run.door run.effects meets two
 command_two (prove_arith ask) seed disk run meets two =
     prove_two run.link_tells (proof_of_arith ask) run.part disk run.door run.effects meets two
+command_two (broker ask) seed disk run meets two = elim meets.serves.statuses [
+  | inl zero_is ↦ omega (arith, zero_is, two)
+  | inr (inl one) ↦ omega (arith, one, two)
+  | inr (inr (inl three)) ↦ omega (arith, three, two)
+  | inr (inr (inr (inl four))) ↦ omega (arith, four, two)
+  | inr (inr (inr (inr (inl five)))) ↦ omega (arith, five, two)
+  | inr (inr (inr (inr (inr (inl six))))) ↦ omega (arith, six, two)
+  | inr (inr (inr (inr (inr (inr seven))))) ↦ omega (arith, seven, two)
+]
+command_two (serve_node ask) seed disk run meets two =
+    service_two (claims_journal (service_of_node ask) (place_asked ask)) (service_of_node ask) run.part (told_change run.disk_tells run.journal) run.door run.effects meets.means two

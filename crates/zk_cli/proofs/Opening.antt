@@ -13,10 +13,10 @@ use Rattle.session_verifier.specs.Outcomes.{grant_fault}
 use Rattle.session_verifier.specs.Sessions.{IsAnsweredNote}
 use Rattle.session_verifier.specs.declared.note.SessionNote.{SessionNote}
 use Rattle.claim_files.specs.Services.{Service}
-use Rattle.file_commands.specs.Journals.{DiskChange, JournalStop, OpensJournal, OnlyReads, disk_change, own_journal, IsCeilingsFault}
+use Rattle.file_commands.specs.Journals.{DiskChange, JournalStop, OpensJournal, OnlyReads, disk_change, own_journal}
 use Rattle.file_commands.specs.Effects.{DoorChange}
 use Rattle.file_commands.proofs.Journals.{keeps_ceiling, opened_is_read}
-use Rattle.zk_cli.specs.ServeRuns.{TakeFewUnits, LeadsJobs, OpeningStop, units_of_note}
+use Rattle.zk_cli.specs.ServeRuns.{TakeFewUnits, LeadsJobs, OpenedJournal, StopsOpening, units_of_note}
 use Rattle.file_commands.specs.Stops.{ListenStop}
 use Rattle.file_commands.specs.declared.refusal.Refusal.{Refusal}
 use Rattle.file_commands.specs.declared.refusal.Refusal.TheVariants as stop
@@ -26,19 +26,19 @@ pub first_file : (jobs : VerifierJobs) (job : VerifierJob) (file : VerifierFile)
 first_file jobs job file at is = at ∙ ap (λ (j : VerifierJob). j.task.file) is
 
 -- no session is opened where the journal is not
-pub lacks_journal : (service : Service) (jobs : VerifierJobs) (disk : DiskChange) (door : DoorChange) (why : Refusal)
-    → TakeFewUnits jobs → OnlyReads (own_journal service.file) disk
-    → JournalStop (IsCeilingsFault jobs.first.task.file.id jobs.first.task.file.params.total disk.old) disk why → door.new ≡ door.old
-    → OpeningStop service jobs disk door why
-lacks_journal service jobs disk door (stop.TooLarge need units) few reads cause same = absurd cause
-lacks_journal service jobs disk door other few reads cause same = (few, reads, inl (cause, same))
+pub lacks_journal : (journal : OpenedJournal) (service : Service) (jobs : VerifierJobs) (disk : DiskChange) (door : DoorChange) (why : Refusal)
+    → TakeFewUnits jobs → OnlyReads journal.choice disk
+    → JournalStop (journal.HasFault jobs.first.task.file.id jobs.first.task.file.params.total disk.old) disk why → door.new ≡ door.old
+    → StopsOpening journal service jobs disk door why
+lacks_journal journal service jobs disk door (stop.TooLarge need units) few reads cause same = absurd cause
+lacks_journal journal service jobs disk door other few reads cause same = (few, reads, inl (cause, same))
 
 -- or the door does not listen
-pub lacks_door : (service : Service) (jobs : VerifierJobs) (disk : DiskChange) (door : DoorChange) (why : Refusal)
-    → TakeFewUnits jobs → OpensJournal (own_journal service.file) disk → ListenStop service.address service.options.timeout door why
-    → OpeningStop service jobs disk door why
-lacks_door service jobs disk door (stop.TooLarge need units) few opens cause = absurd cause
-lacks_door service jobs disk door other few opens cause = (few, opened_is_read (own_journal service.file) disk opens, inr cause)
+pub lacks_door : (journal : OpenedJournal) (service : Service) (jobs : VerifierJobs) (disk : DiskChange) (door : DoorChange) (why : Refusal)
+    → TakeFewUnits jobs → OpensJournal journal.choice disk → ListenStop service.address service.options.timeout door why
+    → StopsOpening journal service jobs disk door why
+lacks_door journal service jobs disk door (stop.TooLarge need units) few opens cause = absurd cause
+lacks_door journal service jobs disk door other few opens cause = (few, opened_is_read journal.choice disk opens, inr cause)
 
 -- the sessions about these jobs that were led over their file's journal
 pub leads_jobs : {L : Type 0} (link_tells : L → LinkState) (service : Service) (jobs : VerifierJobs) (notes : List (SessionNote L))

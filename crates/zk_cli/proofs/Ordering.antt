@@ -22,7 +22,7 @@ use Rattle.file_commands.specs.Journals.{DiskChange}
 use Rattle.file_commands.specs.Effects.{DoorChange}
 use Rattle.zk_cli.specs.ServeRuns.{LeadsFiles, LeadsJobs, units_of_note}
 
-apart_both : (a b : Option Span) → AreGrantsApart a b → AreGrantsApart b a
+pub apart_both : (a b : Option Span) → AreGrantsApart a b → AreGrantsApart b a
 apart_both None None apart = tt
 apart_both None (Some t) apart = tt
 apart_both (Some s) None apart = tt

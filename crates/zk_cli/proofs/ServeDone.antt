@@ -39,12 +39,12 @@ use Rattle.file_commands.specs.Journals.{DiskChange, JournalStop, IsCeilingsFaul
 use Rattle.session_verifier.specs.NoteLines.{has_status, outcome_status}
 use Rattle.file_commands.specs.Effects.{ShelfChange, DoorChange, Effects, NameFailed, OtherNamesStay, OnlyAsks, IsDone}
 use Rattle.zk_cli.specs.Runs.{EachNote}
-use Rattle.zk_cli.specs.ServeRuns.{TakeFewUnits, IsClaimsName, IsFirstTooLarge, IsServeName, LacksClaim, OpeningStop, ServeStop, LeadsFiles, ServeLines, units_of_note}
+use Rattle.zk_cli.specs.ServeRuns.{TakeFewUnits, IsClaimsName, HasServiceFiles, IsFirstTooLarge, IsLoadedName, LacksClaim, OpenedJournal, StopsOpening, StopsService, LeadsFiles, ServeLines, ceilings_journal, units_of_note}
 use Rattle.file_commands.specs.Stops.{ListenStop, stop_status}
-use Rattle.zk_cli.specs.ServeRuns.{IsServable, HasServeFailed, IsWithHonestProver, NotesMean, ServeMeans, Serves}
+use Rattle.zk_cli.specs.ServeRuns.{AreServeJobs, IsServeName, IsServable, HasServeFailed, IsWithHonestProver, NotesMean, ServeMeans, Serves}
 use Rattle.session_verifier.specs.ServiceLogs.{IsLogName}
 use Rattle.zk_cli.specs.declared.finish.Part.{Part}
-use Rattle.zk_cli.specs.declared.finish.Part.TheVariants.{Plain, Proved, Rehearsed, RehearsedElements, Served}
+use Rattle.zk_cli.specs.declared.finish.Part.TheVariants.{Brokered, Plain, Proved, Rehearsed, RehearsedElements, Served}
 use Rattle.file_commands.specs.declared.refusal.Refusal.{Refusal}
 use Rattle.file_commands.specs.declared.refusal.Refusal.TheVariants as stop
 use Rattle.file_commands.proofs.Causes.{file_7, sound_7}
@@ -56,27 +56,19 @@ use Rattle.zk_cli.proofs.ServeOutcomes.{either_is, serve_means}
 -- ---- why a run stops: for want of memory alone
 
 -- a claim among others is one of them
-stands_among : {X : Type 0} (all before behind : List X) (x : X) → all ≡ before ++ x ∷ behind → Contains all x
+pub stands_among : {X : Type 0} (all before behind : List X) (x : X) → all ≡ before ++ x ∷ behind → Contains all x
 stands_among all before behind x are =
     subst (λ (xs : List _). Contains xs x) (sym are)
     (length before, (let size = length-append before (x ∷ behind) in omega (arith, size)), get_or-append_seam before x behind x)
 
-lacks_7 : OneCircuit → TextsAreExact → ElementsAreExact → (service : Service) (shelf : ShelfChange) (disk : DiskState) → IsServable shelf.old.told disk service
+lacks_7 : OneCircuit → TextsAreExact → ElementsAreExact → (service : Service) (shelf : ShelfChange) → HasServiceFiles shelf.old.told service
     → ((name : List ℕ) → IsClaimsName service.claims name → ¬ NameFailed name shelf)
     → (why : Refusal) → LacksClaim service.claims shelf why → why ≡ stop.NoMemory
-lacks_7 one texts exact service shelf disk ready calm why lacks =
+lacks_7 one texts exact service shelf ready calm why lacks =
     let claim = lacks.claim in
     let among = stands_among service.claims lacks.before lacks.behind claim lacks.are in
     statement_lacks one texts exact claim shelf ready.tells (All-contains (HasClaimed shelf.old.told) service.claims claim ready.claims among)
     (λ name is. calm name (claim, among, is)) why lacks.cause
-
--- no journal is refused where one stands that leaves units
-journal_7 : CeilingsStartAgain → (id : List ℕ) (total units : ℕ) (disk : DiskChange) → LeavesUnits id total units disk.old.content
-    → ¬ Rose disk.old.faults disk.new.faults → (why : Refusal) → JournalStop (IsCeilingsFault id total disk.old) disk why → stop_status why ≡ 7
-journal_7 law id total units disk leaves calm why cause = sound_7 (IsCeilingsFault id total disk.old) disk sound calm why cause
-  where
-    sound : (fault : StartFault) → fault ≢ start.Device → ¬ IsCeilingsFault id total disk.old fault
-    sound fault other cause = not_refused law id total leaves.base leaves.bytes fault leaves.says (cause leaves.bytes leaves.known) other
 
 listen_7 : (address : List ℕ) (patience : ℕ) (door : DoorChange) → ¬ Rose door.old.listen_faults door.new.listen_faults → (why : Refusal)
     → ListenStop address patience door why → stop_status why ≡ 7
@@ -92,26 +84,39 @@ none_too_large jobs need units few large =
     let same = large.large.units in
     omega (arith, many, same, here)
 
-opening_7 : CeilingsStartAgain → (service : Service) (jobs : VerifierJobs) (units : ℕ) (disk : DiskChange) (door : DoorChange) → TakeFewUnits jobs
-    → LeavesUnits jobs.first.task.file.id jobs.first.task.file.params.total units disk.old.content → ¬ Rose disk.old.faults disk.new.faults
-    → ¬ Rose door.old.listen_faults door.new.listen_faults → (why : Refusal) → OpeningStop service jobs disk door why → stop_status why ≡ 7
-opening_7 law service jobs units disk door few leaves calm quiet (stop.TooLarge need more) cause = absurd (none_too_large jobs need more few cause.0)
-opening_7 law service jobs units disk door few leaves calm quiet other cause = elim cause.2 [
-  | inl journal ↦ journal_7 law jobs.first.task.file.id jobs.first.task.file.params.total units disk leaves calm other journal.0
+-- no fault but the device's is one of the content as such a journal of the jobs' file
+abbrev pub IsSoundFor : OpenedJournal → VerifierJobs → DiskState → Type 0
+IsSoundFor journal jobs disk = (fault : StartFault) → fault ≢ start.Device
+    → ¬ journal.HasFault jobs.first.task.file.id jobs.first.task.file.params.total disk fault
+
+opening_7 : (journal : OpenedJournal) (service : Service) (jobs : VerifierJobs) (disk : DiskChange) (door : DoorChange) → TakeFewUnits jobs
+    → IsSoundFor journal jobs disk.old → ¬ Rose disk.old.faults disk.new.faults
+    → ¬ Rose door.old.listen_faults door.new.listen_faults → (why : Refusal) → StopsOpening journal service jobs disk door why → stop_status why ≡ 7
+opening_7 journal service jobs disk door few sound calm quiet (stop.TooLarge need more) cause = absurd (none_too_large jobs need more few cause.0)
+opening_7 journal service jobs disk door few sound calm quiet other cause = elim cause.2 [
+  | inl stopped ↦ sound_7 (journal.HasFault jobs.first.task.file.id jobs.first.task.file.params.total disk.old) disk sound calm other stopped.0
   | inr unheard ↦ listen_7 service.address service.options.timeout door quiet other unheard
 ]
 
-stop_7 : OneCircuit → TextsAreExact → ElementsAreExact → CeilingsStartAgain → (service : Service) (disk : DiskChange) (door : DoorChange) (run : Effects)
-    → IsServable run.shelf.old.told disk.old service → ¬ HasServeFailed service disk door run → (why : Refusal)
-    → ServeStop service run.shelf disk door why → stop_status why ≡ 7
-stop_7 one texts exact law service disk door run ready calm why (inl (inl lacks, unasked, unheard)) =
-    ap stop_status (lacks_7 one texts exact service run.shelf disk.old ready (λ name is rose. calm (inl (inl (name, inl (inl is), rose)))) why lacks)
-stop_7 one texts exact law service disk door run ready calm why (inl (inr lacks, unasked, unheard)) =
-    file_7 Verifier service.file run.shelf ready.tells ready.file (λ rose. calm (inl (inl (service.file, inl (inr refl), rose)))) why lacks.1
-stop_7 one texts exact law service disk door run ready calm why (inr opening) =
-    let leaves = ready.room opening.0 opening.1 in
-    opening_7 law service opening.0 (leaves.0 * service.options.sessions) disk door (ready.few opening.0 opening.1) leaves.2
-    (λ rose. calm (inr (inl rose))) (λ rose. calm (inr (inr (inl rose)))) why opening.2
+pub stop_7 : OneCircuit → TextsAreExact → ElementsAreExact → (journal : OpenedJournal) (service : Service) (disk : DiskChange) (door : DoorChange)
+    (shelf : ShelfChange) → HasServiceFiles shelf.old.told service
+    → ((jobs : VerifierJobs) → AreServeJobs shelf.old.told service jobs → IsSoundFor journal jobs disk.old)
+    → ((name : List ℕ) → IsLoadedName service name → ¬ NameFailed name shelf) → ¬ Rose disk.old.faults disk.new.faults
+    → ¬ Rose door.old.listen_faults door.new.listen_faults → (why : Refusal) → StopsService journal service shelf disk door why
+    → stop_status why ≡ 7
+stop_7 one texts exact journal service disk door shelf ready sound calm still quiet why (inl (inl lacks, unasked, unheard)) =
+    ap stop_status (lacks_7 one texts exact service shelf ready (λ name is. calm name (inl is)) why lacks)
+stop_7 one texts exact journal service disk door shelf ready sound calm still quiet why (inl (inr lacks, unasked, unheard)) =
+    file_7 Verifier service.file shelf ready.tells ready.file (calm service.file (inr refl)) why lacks.1
+stop_7 one texts exact journal service disk door shelf ready sound calm still quiet why (inr opening) =
+    opening_7 journal service opening.0 disk door (ready.few opening.0 opening.1) (sound opening.0 opening.1) still quiet why opening.2
+
+-- no journal of ceilings is refused where one stands that leaves units
+ceilings_sound : CeilingsStartAgain → (service : Service) (jobs : VerifierJobs) (units : ℕ) (disk : DiskState)
+    → LeavesUnits jobs.first.task.file.id jobs.first.task.file.params.total units disk.content → IsSoundFor (ceilings_journal service) jobs disk
+ceilings_sound law service jobs units disk leaves fault other cause =
+    not_refused law jobs.first.task.file.id jobs.first.task.file.params.total leaves.base leaves.bytes fault leaves.says
+    (cause leaves.bytes leaves.known) other
 
 -- ---- sessions with honest peers
 
@@ -242,12 +247,16 @@ serve_is_done : {L : Type 0} (link_tells : L → LinkState) → OneCircuit → T
 serve_is_done link_tells one texts exact law service (Served notes) disk door run says means ready calm honest =
     notes_done link_tells service notes.items disk door run says.door_failed says.memory_failed ready says.leads honest calm means
 serve_is_done link_tells one texts exact law service Plain disk door run says means ready calm honest = elim means [
-  | inl stopped ↦ inr (stopped.2 ∙ stop_7 one texts exact law service disk door run ready calm stopped.0 stopped.1)
+  | inl stopped ↦ inr (stopped.2 ∙ stop_7 one texts exact (ceilings_journal service) service disk door run.shelf ready.files
+      (λ jobs served. ceilings_sound law service jobs _ disk.old (ready.room jobs served).2)
+      (λ name is rose. calm (inl (inl (name, inl is, rose)))) (λ rose. calm (inr (inl rose)))
+      (λ rose. calm (inr (inr (inl rose)))) stopped.0 stopped.1)
   | inr seven ↦ inr seven
 ]
 serve_is_done link_tells one texts exact law service (Rehearsed r) disk door run says means ready calm honest = absurd says
 serve_is_done link_tells one texts exact law service (RehearsedElements r) disk door run says means ready calm honest = absurd says
 serve_is_done link_tells one texts exact law service (Proved note) disk door run says means ready calm honest = absurd says
+serve_is_done link_tells one texts exact law service (Brokered notes) disk door run says means ready calm honest = absurd says
 
 pub serves : {L : Type 0} (link_tells : L → LinkState) → OneCircuit → TextsAreExact → ElementsAreExact → CeilingsStartAgain → (service : Service) (part : Part L) (disk : DiskChange) (door : DoorChange)
     (run : Effects) → ServeLines link_tells service part disk door run → OtherNamesStay (IsLogName service.options.logs) run.shelf.old.told run.shelf.new.told

@@ -1,6 +1,7 @@
 -- What is said of the sessions that were served gives what the status says.
 use Rattle.std.proofs.Common.{◌≡◌, ◌≢◌, ◌⊎◌, ℕ, zero, suc, Bool, true, false, List, [], ◌∷◌, All, Option, refl, sym, ap, ◌∙◌, subst, inl, inr, arith}
 use Rattle.std.specs.Prelude.{◌==◌, ◌||◌, if◌then◌else◌}
+use Rattle.zk_port.specs.Counts.{Rose}
 use Rattle.zk_port.specs.Doors.{DoorState}
 use Rattle.zk_port.specs.Links.{LinkState}
 use Rattle.session_pool.specs.Notes.{IsMarked}
@@ -12,12 +13,12 @@ use Rattle.claim_files.specs.Services.{Service}
 use Rattle.file_commands.specs.Journals.{DiskChange}
 use Rattle.session_verifier.specs.NoteLines.{IsServedText, has_status, served_status, failures, outcome_status}
 use Rattle.file_commands.specs.Effects.{ShelfChange, DoorChange, Effects}
-use Rattle.zk_cli.specs.ServeRuns.{ServeLines, ServeStop, NotesMean, ServeMeans, SaysNotes}
-use Rattle.session_verifier.specs.ServiceLogs.{KeepsLogs, no_faults}
+use Rattle.zk_cli.specs.ServeRuns.{OpenedJournal, ServeLines, StopsService, NotesMean, ServeMeans, SaysNotes, ceilings_journal}
+use Rattle.session_verifier.specs.ServiceLogs.{KeepsLogs, SaysService, no_faults}
 use Rattle.session_verifier.specs.declared.service_logs.LogFaults.{LogFaults}
 use Rattle.file_commands.specs.Stops.{Prints, after_sink_fault}
 use Rattle.zk_cli.specs.declared.finish.Part.{Part}
-use Rattle.zk_cli.specs.declared.finish.Part.TheVariants.{Plain, Proved, Rehearsed, RehearsedElements, Served}
+use Rattle.zk_cli.specs.declared.finish.Part.TheVariants.{Brokered, Plain, Proved, Rehearsed, RehearsedElements, Served}
 use Rattle.file_commands.specs.declared.refusal.Refusal.{Refusal}
 use Rattle.file_commands.specs.declared.refusal.Refusal.TheVariants as stop
 use Rattle.file_commands.proofs.Journals.{rose_by}
@@ -161,42 +162,44 @@ all_kept prefix notes shelf faults kept failed lacked =
 
 -- ---- the status
 
-module _ {L : Type 0} (link_tells : L → LinkState) (service : Service) (notes : List (SessionNote L)) (disk : DiskChange) (door : DoorChange)
-    (run : Effects) (says : SaysNotes link_tells service notes disk door run) where
+module _ {L : Type 0} (service : Service) (notes : List (SessionNote L)) (disk : DiskChange) (door : DoorChange) (run : Effects)
+    (door_failed memory_failed : Bool) (says : SaysService service.options.logs notes door_failed memory_failed run)
+    (failed : door_failed ≡ true → Rose door.old.next_faults door.new.next_faults)
+    (calm : door_failed ≡ false → door.new.next_faults ≡ door.old.next_faults)
+    (heard : door.new.listen_faults ≡ door.old.listen_faults)
+    (marked : has_status notes 5 ≡ true → Rose disk.old.faults disk.new.faults) where
   abbrev faults : LogFaults
-  faults = says.says.faults
+  faults = says.faults
 
   abbrev status : ℕ
-  status = served_status notes (failures says.door_failed faults.failed (says.memory_failed || faults.lacked))
+  status = served_status notes (failures door_failed faults.failed (memory_failed || faults.lacked))
 
   abbrev Means : ℕ → Type 0
-  Means = ChainMeans says.door_failed faults.failed (says.memory_failed || faults.lacked)
+  Means = ChainMeans door_failed faults.failed (memory_failed || faults.lacked)
       (has_status notes 1) (has_status notes 4) (has_status notes 5) (has_status notes 6) (has_status notes 7)
 
-  failed_so : (says.door_failed ≡ true) ⊎ (faults.failed ≡ true) ⊎ (has_status notes 4 ≡ true) → run.status ≡ 4 → NotesMean service notes disk door run
-  failed_so (inl failed) is = inr (inr (inl (is, inl (inr (says.leads.leads.taken.failed failed)))))
-  failed_so (inr (inl failed)) is = inr (inr (inl (is, inr (inl (says.says.logs.tried.cause failed)))))
+  failed_so : (door_failed ≡ true) ⊎ (faults.failed ≡ true) ⊎ (has_status notes 4 ≡ true) → run.status ≡ 4 → NotesMean service notes disk door run
+  failed_so (inl at_door) is = inr (inr (inl (is, inl (inr (failed at_door)))))
+  failed_so (inr (inl at_log)) is = inr (inr (inl (is, inr (inl (says.logs.tried.cause at_log)))))
   failed_so (inr (inr link)) is = inr (inr (inl (is, inr (inr (inr link)))))
 
   five_so : has_status notes 5 ≡ true → run.status ≡ 5 → NotesMean service notes disk door run
-  five_so five is =
-      let leads = says.leads.leads in
-      inr (inr (inr (inl (is, rose_by disk.old.faults leads.mark disk.new.faults (leads.kept.rose (marks leads.mark notes five leads.marked)), five))))
+  five_so five is = inr (inr (inr (inl (is, marked five, five))))
 
-  mean_written : (text : List ℕ) → IsServedText notes says.door_failed text → Means status → Prints status text run.status run.sink
+  mean_written : (text : List ℕ) → IsServedText notes door_failed text → Means status → Prints status text run.status run.sink
       → NotesMean service notes disk door run
   mean_written text served means (inr (inr short)) = inr (inr (inr (inr (inr short.0))))
   mean_written text served (inl zero_is) (inl whole) =
-      let calm = zero_is.1 in
+      let well = zero_is.1 in
       inl (
         whole.0 ∙ zero_is.0,
         record {
-          each = all_accepted notes calm.one_is calm.four_is calm.five_is calm.six_is calm.seven_is;
-          lines = (text, subst (λ (failed : Bool). IsServedText notes failed text) calm.door_is served, whole.1);
-          logs = all_kept service.options.logs notes run.shelf faults says.says.logs calm.shelf_is
-              (rest_is says.memory_failed faults.lacked calm.memory_is);
-          listen_quiet = ap (λ (s : DoorState). s.listen_faults) says.leads.leads.taken.rest;
-          next_quiet = says.leads.leads.taken.calm calm.door_is;
+          each = all_accepted notes well.one_is well.four_is well.five_is well.six_is well.seven_is;
+          lines = (text, subst (λ (at_door : Bool). IsServedText notes at_door text) well.door_is served, whole.1);
+          logs = all_kept service.options.logs notes run.shelf faults says.logs well.shelf_is
+              (rest_is memory_failed faults.lacked well.memory_is);
+          listen_quiet = heard;
+          next_quiet = calm well.door_is;
         },
       )
   mean_written text served (inr (inl one)) (inl whole) = inr (inl (whole.0 ∙ one.0, one.1))
@@ -215,30 +218,40 @@ module _ {L : Type 0} (link_tells : L → LinkState) (service : Service) (notes 
       inr (inr (inr (inr (inr (fault.0 ∙ ap after_sink_fault seven)))))
 
   pub notes_mean : NotesMean service notes disk door run
-  notes_mean = elim says.says.lines [
-    | inl written ↦ mean_written written.0 written.1 (chain_means says.door_failed faults.failed (says.memory_failed || faults.lacked)
+  notes_mean = elim says.lines [
+    | inl written ↦ mean_written written.0 written.1 (chain_means door_failed faults.failed (memory_failed || faults.lacked)
         (has_status notes 1) (has_status notes 4) (has_status notes 5) (has_status notes 6) (has_status notes 7)) written.2
     | inr short ↦ inr (inr (inr (inr (inr short.0))))
   ]
 
+-- of a service over the file's own journal
+served_mean : {L : Type 0} (link_tells : L → LinkState) (service : Service) (notes : List (SessionNote L)) (disk : DiskChange) (door : DoorChange)
+    (run : Effects) → SaysNotes link_tells service notes disk door run → NotesMean service notes disk door run
+served_mean link_tells service notes disk door run says =
+    let leads = says.leads.leads in
+    notes_mean service notes disk door run says.door_failed says.memory_failed says.says leads.taken.failed leads.taken.calm
+    (ap (λ (s : DoorState). s.listen_faults) leads.taken.rest)
+    (λ five. rose_by disk.old.faults leads.mark disk.new.faults (leads.kept.rose (marks leads.mark notes five leads.marked)))
+
 -- a service does not stop for other outputs
-serve_is_high : (service : Service) (shelf : ShelfChange) (disk : DiskChange) (door : DoorChange) (why : Refusal) → ServeStop service shelf disk door why
-    → IsHigh why
-serve_is_high service shelf disk door (stop.Unsatisfied output) (inl (inl lacks, unasked, unheard)) =
+pub stop_is_high : (journal : OpenedJournal) (service : Service) (shelf : ShelfChange) (disk : DiskChange) (door : DoorChange) (why : Refusal)
+    → StopsService journal service shelf disk door why → IsHigh why
+stop_is_high journal service shelf disk door (stop.Unsatisfied output) (inl (inl lacks, unasked, unheard)) =
     absurd (not_unsatisfied lacks.claim shelf output lacks.cause)
-serve_is_high service shelf disk door (stop.Unsatisfied output) (inl (inr lacks, unasked, unheard)) = absurd lacks.1
-serve_is_high service shelf disk door (stop.Unsatisfied output) (inr opening) =
-    elim opening.2.2 [ inl journal ↦ absurd journal.0 | inr unheard ↦ absurd unheard ]
-serve_is_high service shelf disk door other cause = tt
+stop_is_high journal service shelf disk door (stop.Unsatisfied output) (inl (inr lacks, unasked, unheard)) = absurd lacks.1
+stop_is_high journal service shelf disk door (stop.Unsatisfied output) (inr opening) =
+    elim opening.2.2 [ inl cause ↦ absurd cause.0 | inr unheard ↦ absurd unheard ]
+stop_is_high journal service shelf disk door other cause = tt
 
 pub serve_means : {L : Type 0} (link_tells : L → LinkState) (service : Service) (part : Part L) (disk : DiskChange) (door : DoorChange) (run : Effects)
     → ServeLines link_tells service part disk door run → ServeMeans service part disk door run
-serve_means link_tells service (Served notes) disk door run says = notes_mean link_tells service notes.items disk door run says
+serve_means link_tells service (Served notes) disk door run says = served_mean link_tells service notes.items disk door run says
 serve_means link_tells service Plain disk door run says =
-    elim (stop_answers says.0.stop run.status run.sink (serve_is_high service run.shelf disk door says.0.stop says.0.cause) says.0.prints) [
+    elim (stop_answers says.0.stop run.status run.sink (stop_is_high (ceilings_journal service) service run.shelf disk door says.0.stop says.0.cause) says.0.prints) [
       | inl e ↦ inl (says.0.stop, says.0.cause, e)
       | inr e ↦ inr e
     ]
 serve_means link_tells service (Rehearsed r) disk door run says = absurd says
 serve_means link_tells service (RehearsedElements r) disk door run says = absurd says
 serve_means link_tells service (Proved note) disk door run says = absurd says
+serve_means link_tells service (Brokered notes) disk door run says = absurd says

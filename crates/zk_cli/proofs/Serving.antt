@@ -148,7 +148,7 @@ claim_job told service jobs served n within =
       zip_at IsPair service.claims (all_jobs jobs) served.each n none jobs.first inside,
     )
 
-shows_claim : ExtractedShowsOutputs → ExtractedShowsElements → ElementsAreExact → (told : Option Files) (service : Service) (jobs : VerifierJobs) → AreServeJobs told service jobs
+pub shows_claim : ExtractedShowsOutputs → ExtractedShowsElements → ElementsAreExact → (told : Option Files) (service : Service) (jobs : VerifierJobs) → AreServeJobs told service jobs
     → (answer : Option (Result Span GrantFault)) (taken : Option ℕ) (granted : Option Span) (outcome : VerifierOutcome) (log : List (Side × ℕ)) (link : LinkState)
     → TakesStatement jobs taken answer outcome log → IsVerifierSession (noted_job jobs taken) answer granted outcome log link → outcome ≡ Accepted
     → (n : ℕ) × (taken ≡ Some n) × (claim : ClaimNames) × (slice_get service.claims n ≡ Some claim) × IsHeadline told service claim granted log

@@ -6,3 +6,5 @@ pub mod ServeRuns
 pub mod ServedNotes
 pub mod ProvedParts
 pub mod ArithRuns
+pub mod BrokeredParts
+pub mod NodeServiceRuns

@@ -1,9 +1,9 @@
 -- What a run of the program does for what its words ask for.
 use Rattle.std.specs.Prelude.{◌≡◌, ◌⊎◌, ℕ, List, Bool, false, Option}
-use Rattle.claim_files.specs.Services.{service_asked, service_of_arith}
+use Rattle.claim_files.specs.Services.{service_asked, service_of_arith, service_of_node}
 use Rattle.command_words.specs.BitWords.{Bits, BitsAsk}
 use Rattle.command_words.specs.Words.{Ask}
-use Rattle.command_words.specs.declared.asks.Ask.TheVariants.{Rehearse as rehearse, Eval as eval, Deal as deal, Serve as serve, ServeMany as serve_many, ServeArith as serve_arith, Prove as prove, ProveArith as prove_arith, Generate as generate, RehearseArith as rehearse_arith, Audit as audit, AuditArith as audit_arith, Migrate as migrate, Status as status, Node as node}
+use Rattle.command_words.specs.declared.asks.Ask.TheVariants.{Rehearse as rehearse, Eval as eval, Deal as deal, Serve as serve, ServeMany as serve_many, ServeArith as serve_arith, Prove as prove, ProveArith as prove_arith, Generate as generate, RehearseArith as rehearse_arith, Audit as audit, AuditArith as audit_arith, Migrate as migrate, Status as status, Node as node, Broker as broker, ServeNode as serve_node}
 use Rattle.proof_audit.specs.AuditRuns.{Audits}
 use Rattle.proof_audit.specs.NamedAudits.{audit_asked, audit_of_arith}
 use Rattle.file_commands.specs.DealRuns.{Deals}
@@ -13,11 +13,15 @@ use Rattle.file_commands.specs.EvalRuns.{Evaluates}
 use Rattle.file_commands.specs.MigrateRuns.{Migrates}
 use Rattle.node_command.specs.NodeRuns.{MakesNode}
 use Rattle.prove_command.specs.Proofs.{proof_asked, proof_of_arith}
+use Rattle.zk_cli.specs.BrokeredParts.{BrokersPart}
+use Rattle.zk_cli.specs.NodeServiceRuns.{ServesNode, place_asked}
 use Rattle.zk_cli.specs.ProvedParts.{ProvesPart}
 use Rattle.zk_cli.specs.ArithRuns.{RehearsesArith}
 use Rattle.zk_cli.specs.RehearseRuns.{Rehearses, Generates}
 use Rattle.file_commands.specs.Journals.{DiskChange}
 use Rattle.status_command.specs.StatusRuns.{Reports}
+use Rattle.zk_port.specs.Changes.{Change}
+use Rattle.zk_port.specs.Disks.{DiskState}
 use Rattle.zk_port.specs.Files.{Files}
 use Rattle.zk_cli.specs.Runs.{Run}
 use Rattle.zk_cli.specs.declared.finish.Part.{Part}
@@ -58,12 +62,15 @@ Meets (serve_many ask) seed disk run = ServesMany run.link_tells ask run.part di
 Meets (serve_arith ask) seed disk run = Serves run.link_tells (service_of_arith ask) run.part disk run.door run.effects
 Meets (prove ask) seed disk run = ProvesPart run.link_tells (proof_asked ask) run.part disk run.door run.effects
 Meets (prove_arith ask) seed disk run = ProvesPart run.link_tells (proof_of_arith ask) run.part disk run.door run.effects
+Meets (broker ask) seed disk run = BrokersPart run.link_tells run.disk_tells ask run.part disk run.door run.effects
+Meets (serve_node ask) seed disk run =
+    ServesNode run.link_tells run.disk_tells (service_of_node ask) (place_asked ask) run.part run.journal run.door run.effects
 
 -- all that a run promises of what is asked for: its command's record, the headline, and that no unit is granted twice
 pub record Promises {F L B D : Type 0} (ask : Ask Bits) (seed : List ℕ) (disk : DiskChange) (run : Run F L B D) : Type 0 where
   pub meets : Meets ask seed disk run
   pub headline : ShowsClaims run.effects.shelf.old.told ask run.part
-  pub once : GrantsOnceIn run.effects.shelf.old.told ask run.part disk
+  pub once : GrantsOnceIn run.disk_tells run.effects.shelf.old.told ask run.part run.journal
 
 -- ---- bits that files give
 
@@ -90,12 +97,15 @@ DoesGiven ask seed disk run = OfGiven ask run (λ given. Promises given seed dis
 abbrev pub ShowsGiven : {L : Type 0} → Option Files → Ask BitsAsk → Part L → Type 0
 ShowsGiven told ask part = ((given : Ask Bits) × IsAskGiven told ask given × ShowsClaims told given part) ⊎ (part ≡ Plain)
 
-abbrev pub GrantsOnceGiven : {L : Type 0} → Option Files → Ask BitsAsk → Part L → DiskChange → Type 0
-GrantsOnceGiven told ask part disk = ((given : Ask Bits) × IsAskGiven told ask given × GrantsOnceIn told given part disk) ⊎ (part ≡ Plain)
+abbrev pub GrantsOnceGiven : {B L : Type 0} → (B → DiskState) → Option Files → Ask BitsAsk → Part L → Change B → Type 0
+GrantsOnceGiven disk_tells told ask part journal =
+    ((given : Ask Bits) × IsAskGiven told ask given × GrantsOnceIn disk_tells told given part journal) ⊎ (part ≡ Plain)
 
 -- a service is asked for that says how it goes
 abbrev pub follows : {B : Type 0} → Ask B → Bool
 follows (serve ask) = ask.options.follow
 follows (serve_many ask) = ask.options.follow
 follows (serve_arith ask) = ask.options.follow
+follows (broker ask) = ask.follow
+follows (serve_node ask) = ask.follow
 follows other = false

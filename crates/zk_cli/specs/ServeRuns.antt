@@ -9,8 +9,9 @@ use Rattle.zk_model.specs.Statement.{Statement}
 use Rattle.zk_model.specs.declared.Side.TheVariants.{Verifier}
 use Rattle.zk_model.specs.declared.limits.TheConstants.{MAX_UNITS}
 use Rattle.zk_port.specs.Counts.{Rose}
-use Rattle.zk_port.specs.Disks.{DiskState}
+use Rattle.zk_port.specs.Disks.{Choice, DiskState}
 use Rattle.lease_core.specs.Machine.{ceiling_for}
+use Rattle.lease_journal.specs.declared.fault.StartFault.{StartFault}
 use Rattle.lease_words.specs.Calls.{AreGathered}
 use Rattle.lease_words.specs.declared.pass.Pass.{Pass}
 use Rattle.lease_store.specs.Ceilings.{SaysCeiling}
@@ -109,21 +110,37 @@ FitStop jobs (TooLarge need units) = IsFirstTooLarge jobs (record { need = need;
 FitStop jobs NoMemory = Unit {0}
 FitStop jobs stop = ⊥
 
--- Why no session is opened: one takes too many units, and nothing is asked of the disk or the door; the file's journal is not
--- opened, and nothing is asked of the door; or the door does not listen. The journal is at most read.
-abbrev pub OpeningStop : Service → VerifierJobs → DiskChange → DoorChange → Refusal → Type 0
-OpeningStop service jobs disk door (TooLarge need units) =
+-- the journal that a service opens: how it is chosen, and which fault a disk's content has as such a journal of a file of this id and total
+pub record OpenedJournal : Type 1 where
+  pub choice : Choice
+  pub HasFault : List ℕ → ℕ → DiskState → StartFault → Type 0
+
+-- that of the verifier's file, which says a ceiling
+abbrev pub ceilings_journal : Service → OpenedJournal
+ceilings_journal service = record { choice = own_journal service.file; HasFault = IsCeilingsFault }
+
+-- Why no session is opened: one takes too many units, and nothing is asked of the disk or the door; the journal is not opened, and
+-- nothing is asked of the door; or the door does not listen. The journal is at most read.
+abbrev pub StopsOpening : OpenedJournal → Service → VerifierJobs → DiskChange → DoorChange → Refusal → Type 0
+StopsOpening journal service jobs disk door (TooLarge need units) =
     IsFirstTooLarge (all_jobs jobs) (record { need = need; units = units }) × IsUntouched disk × (door.new ≡ door.old)
-OpeningStop service jobs disk door stop = TakeFewUnits jobs × OnlyReads (own_journal service.file) disk
-    × ((JournalStop (IsCeilingsFault jobs.first.task.file.id jobs.first.task.file.params.total disk.old) disk stop
+StopsOpening journal service jobs disk door stop = TakeFewUnits jobs × OnlyReads journal.choice disk
+    × ((JournalStop (journal.HasFault jobs.first.task.file.id jobs.first.task.file.params.total disk.old) disk stop
     × (door.new ≡ door.old)) ⊎ ListenStop service.address service.options.timeout door stop)
 
 -- Why nothing is served, the first of these: a claim's circuit can't be had, has too few inputs for the public bits, or another number
 -- of outputs, or the file of these can't be had; the verifier's file can't be had; a session is too large; the journal is not opened; the door does not listen.
-abbrev pub ServeStop : Service → ShelfChange → DiskChange → DoorChange → Refusal → Type 0
-ServeStop service shelf disk door stop =
+abbrev pub StopsService : OpenedJournal → Service → ShelfChange → DiskChange → DoorChange → Refusal → Type 0
+StopsService journal service shelf disk door stop =
     (LacksFiles service shelf stop × IsUntouched disk × (door.new ≡ door.old))
-    ⊎ ((jobs : VerifierJobs) × AreServeJobs shelf.old.told service jobs × OpeningStop service jobs disk door stop)
+    ⊎ ((jobs : VerifierJobs) × AreServeJobs shelf.old.told service jobs × StopsOpening journal service jobs disk door stop)
+
+-- of a service with units of the file's own journal
+abbrev pub OpeningStop : Service → VerifierJobs → DiskChange → DoorChange → Refusal → Type 0
+OpeningStop service jobs disk door stop = StopsOpening (ceilings_journal service) service jobs disk door stop
+
+abbrev pub ServeStop : Service → ShelfChange → DiskChange → DoorChange → Refusal → Type 0
+ServeStop service shelf disk door stop = StopsService (ceilings_journal service) service shelf disk door stop
 
 -- ---- what is served
 
@@ -211,20 +228,28 @@ NotesMean service notes disk door run =
     ⊎ (run.status ≡ 7)
 
 -- before that, that of a stop which has its cause, or 7
+abbrev pub ServiceMeans : {L : Type 0} → OpenedJournal → Service → Part L → DiskChange → DoorChange → Effects → Type 0
+ServiceMeans journal service (Served notes) disk door run = NotesMean service notes.items disk door run
+ServiceMeans journal service Plain disk door run =
+    IsOfStop (StopsService journal service run.shelf disk door) run.status ⊎ (run.status ≡ 7)
+ServiceMeans journal service part disk door run = ⊥
+
 abbrev pub ServeMeans : {L : Type 0} → Service → Part L → DiskChange → DoorChange → Effects → Type 0
-ServeMeans service (Served notes) disk door run = NotesMean service notes.items disk door run
-ServeMeans service Plain disk door run = IsOfStop (ServeStop service run.shelf disk door) run.status ⊎ (run.status ≡ 7)
-ServeMeans service part disk door run = ⊥
+ServeMeans service part disk door run = ServiceMeans (ceilings_journal service) service part disk door run
 
 -- ---- where nothing is refused and nothing fails
 
 -- a shelf that tells has a circuit of each claim, with inputs for its public bits and as many outputs as it claims, and a verifier's file,
--- about which a session takes few units; and the disk has its journal, which leaves as many units as all sessions take
-pub record IsServable (told : Option Files) (disk : DiskState) (service : Service) : Type 0 where
+-- about which a session takes few units
+pub record HasServiceFiles (told : Option Files) (service : Service) : Type 0 where
   pub tells : told ≢ None
   pub claims : All (HasClaimed told) service.claims
   pub file : HasText told service.file (IsDealtFile Verifier)
   pub few : (jobs : VerifierJobs) → AreServeJobs told service jobs → TakeFewUnits jobs
+
+-- and the disk has its journal, which leaves as many units as all sessions take
+pub record IsServable (told : Option Files) (disk : DiskState) (service : Service) : Type 0 where
+  pub files : HasServiceFiles told service
   pub room : (jobs : VerifierJobs) → AreServeJobs told service jobs
       → (most : ℕ) × All (λ job. units_of_job job ≤ most) (all_jobs jobs) × LeavesUnits jobs.first.task.file.id
       jobs.first.task.file.params.total (most * service.options.sessions) disk.content

@@ -1,5 +1,5 @@
 -- What an accepted session that was served shows.
-use Rattle.std.specs.Prelude.{◌≡◌, ◌⊎◌, ℕ, ◌+◌, ◌≤◌, max, List, All, AllPairs, Option, Some, IfSome, IsSomeAnd, slice_get}
+use Rattle.std.specs.Prelude.{◌≡◌, ◌⊎◌, ℕ, ◌+◌, ◌≤◌, max, List, [], All, AllPairs, Option, Some, IfSome, IsSomeAnd, slice_get}
 use Rattle.std.specs.List.{sum_by}
 use Rattle.std.specs.List.Sorted.{IsNonDecreasingBy}
 use Rattle.zk_model.specs.Files.{ProverFile, IsProverFile, AreDealt}
@@ -10,26 +10,30 @@ use Rattle.zk_model.specs.View.{ChecksHold, SaysVerdict}
 use Rattle.zk_model.specs.declared.Side.{Side}
 use Rattle.zk_model.specs.declared.Span.{Span}
 use Rattle.zk_model.specs.declared.Verdict.TheVariants.{Accepted}
+use Rattle.zk_port.specs.Changes.{Change}
 use Rattle.zk_port.specs.Counts.{Rose}
-use Rattle.zk_port.specs.Disks.{LeavesOnly}
+use Rattle.zk_port.specs.Disks.{DiskState, LeavesOnly}
 use Rattle.zk_port.specs.Files.{Files}
 use Rattle.session_core.specs.Jobs.{VerifierJob, VerifierJobs, granted_from, units_of_job}
 use Rattle.lease_core.specs.Machine.{ceiling_for}
 use Rattle.lease_store.specs.Ceilings.{FindsCeiling, SaysCeiling}
+use Rattle.claim_store.specs.Claims.{AreDurable, ClaimState, SaysClaims}
+use Rattle.node_sessions.specs.Journals.{SaysGrants, TellsContent}
+use Rattle.node_sessions.specs.Laws.{ClaimsStay, GrantsClaim, GrantsNoUnitTwice}
 use Rattle.session_pool.specs.Notes.{AreGrantsApart, IsBetween}
 use Rattle.session_verifier.specs.declared.note.SessionNote.{SessionNote}
 use Rattle.session_verifier.specs.declared.note.VerifierOutcome.TheVariants as ended
 use Rattle.command_words.specs.BitWords.{Bits}
 use Rattle.command_words.specs.Words.{Ask}
-use Rattle.command_words.specs.declared.asks.Ask.TheVariants.{Serve as serve, ServeMany as serve_many, ServeArith as serve_arith}
+use Rattle.command_words.specs.declared.asks.Ask.TheVariants.{Serve as serve, ServeMany as serve_many, ServeArith as serve_arith, ServeNode as serve_node}
 use Rattle.claim_files.specs.NamedClaims.{AreSatisfying, Claimed}
-use Rattle.claim_files.specs.Services.{Service, service_asked, service_of_arith}
+use Rattle.claim_files.specs.Services.{Service, service_asked, service_of_arith, service_of_node}
 use Rattle.claim_files.specs.declared.claim_names.ClaimNames.{ClaimNames}
 use Rattle.file_commands.specs.Journals.{DiskChange}
 use Rattle.session_verifier.specs.NoteLines.{start_of}
 use Rattle.zk_cli.specs.ManyRuns.{IsServiceOfMany}
 use Rattle.zk_cli.specs.ServeRuns.{TakeFewUnits, AreServeJobs, IsServeJob, units_of_note}
-use Rattle.zk_cli.specs.Runs.{OfNotes}
+use Rattle.zk_cli.specs.Runs.{OfNotes, told_change}
 use Rattle.zk_cli.specs.declared.finish.Part.{Part}
 
 -- The headline, of a claim, what is claimed and the file that a shelf tells under the names of it and of the service (of one that tells
@@ -93,6 +97,31 @@ pub record GrantsOnce {L : Type 0} (told : Option Files) (service : Service) (no
   pub any_moment : (bytes : List ℕ) → disk.old.content ≡ Some bytes → LeavesOnly disk.old disk.new
       (λ image. disk.old.images image ⊎ FindsCeiling jobs.first.task.file.id jobs.first.task.file.params.total base bytes image)
 
+-- The same of a node, whose units a broker leases: no two sessions are granted a unit in common, and each granted span has the units of its session
+-- and ends within the total. The journal with which the disk was handed in says the claims that the node began with; none of the units that
+-- were granted is one of these, and each is claimed when the sessions end. Where no call of the disk failed, the content and each image of the
+-- disk that comes back say all claims. Where the disk tells its content, each image of it says what the node began with and each unit
+-- that was granted, whatever failed; and so at any moment of the run a crash leaves what one might have left before it, or says the claims that
+-- the node began with. So no unit is granted that this node was granted in an earlier run, or will be in a later one.
+pub record GrantsClaimedOnce {B L : Type 0} (state : B → DiskState) (told : Option Files) (service : Service) (notes : List (SessionNote L))
+    (journal : Change B) : Type 0 where
+  pub jobs : VerifierJobs
+  pub served : AreServeJobs told service jobs
+  pub few : TakeFewUnits jobs
+  pub ordered : IsNonDecreasingBy (λ note. start_of note.granted) notes
+  pub first : ClaimState B
+  pub last : ClaimState B
+  pub total : first.total ≡ jobs.first.task.file.params.total
+  pub recovered : (bytes : List ℕ) → (state journal.old).content ≡ Some bytes → SaysClaims first.total first.begin first.slots first.claims bytes
+  pub once : GrantsNoUnitTwice jobs first.total notes
+  pub claimed : GrantsClaim first.claims last.claims notes
+  pub kept : ClaimsStay state first last
+  pub closed : journal.new ≡ last.disk
+  pub exact : ¬ Rose (state journal.old).faults (state journal.new).faults → AreDurable state last
+  pub durable : TellsContent state → (image : List ℕ) → (state journal.new).images image → SaysGrants first notes image
+  pub any_moment : TellsContent state → LeavesOnly (state journal.old) (state journal.new)
+      (λ image. (state journal.old).images image ⊎ SaysGrants {L = L} first [] image)
+
 -- this holds of the sessions that a run hands back, with the service that was asked for: of the one claim that words name, or of those that a
 -- file of statements does
 abbrev pub OfServed : {L : Type 0} → Option Files → Ask Bits → Part L → (Service → List (SessionNote L) → Type 0) → Type 0
@@ -100,6 +129,7 @@ OfServed told (serve ask) part Holds = OfNotes part (Holds (service_asked ask))
 OfServed told (serve_arith ask) part Holds = OfNotes part (Holds (service_of_arith ask))
 OfServed told (serve_many ask) part Holds =
     OfNotes part (λ notes. (service : Service) × IsServiceOfMany told ask service × Holds service notes)
+OfServed told (serve_node ask) part Holds = OfNotes part (Holds (service_of_node ask))
 OfServed told ask part Holds = Unit {0}
 
 -- each accepted session shows its claim; and no unit was granted twice
@@ -107,5 +137,6 @@ abbrev pub ShowsClaims : {L : Type 0} → Option Files → Ask Bits → Part L �
 ShowsClaims told ask part =
     OfServed told ask part (λ service notes. All (λ note. note.outcome ≡ ended.Accepted → ShowsClaim told service note) notes)
 
-abbrev pub GrantsOnceIn : {L : Type 0} → Option Files → Ask Bits → Part L → DiskChange → Type 0
-GrantsOnceIn told ask part disk = OfServed told ask part (λ service notes. GrantsOnce told service notes disk)
+abbrev pub GrantsOnceIn : {B L : Type 0} → (B → DiskState) → Option Files → Ask Bits → Part L → Change B → Type 0
+GrantsOnceIn state told (serve_node ask) part journal = OfNotes part (λ notes. GrantsClaimedOnce state told (service_of_node ask) notes journal)
+GrantsOnceIn state told ask part journal = OfServed told ask part (λ service notes. GrantsOnce told service notes (told_change state journal))

@@ -2,6 +2,8 @@
 ghost use Rattle.std.specs.Prelude.{◌≡◌};
 ghost use Rattle.zk_cli.specs.declared.finish.Part.TheVariants.{Plain};
 
+use broker_links::BrokerNote;
+use lease_store::LeaseFault;
 use session_prover::ProverNote;
 use session_rehearsal::{Bits, Elements, Rehearsal};
 use session_verifier::SessionNote;
@@ -20,6 +22,8 @@ pub enum Part<L> {
     Proved(ProverNote<L>),
     /// What came of the sessions with the peers that called, in order: exactly where the door listened.
     Served(Vec<SessionNote<L>>),
+    /// What came of the wants of the nodes that called, in order: exactly where the door listened.
+    Brokered(Vec<BrokerNote<L, LeaseFault>>),
 }
 
 /// How a command ends: the status that the program ends with, and what it made beside its lines.

@@ -2,16 +2,18 @@
 //! sessions. The others, and what all share, are in `file_commands`.
 //!
 //! `run` has the top call. A service (`serve_command`) loads its claims (`service_files`), makes a job of each (`serve_jobs`) and leads
-//! sessions about them, whose logs are kept as they end (`watched`), and says how it goes (`follow`); `many_command` serves those of a file of
-//! statements. What is kept and said of sessions is in `session_verifier`. `proved_part` hands back what comes of `prove` and `prove-arith`,
-//! whose run is in `prove_command`.
+//! sessions about them, whose logs are kept as they end (`watched`); `many_command` serves those of a file of statements; and `node_service`
+//! has a node serve, with units that a broker leases to it. What is kept and said of sessions is in `session_verifier`. `proved_part` hands back
+//! what comes of `prove` and `prove-arith`, whose run is in `prove_command`, and `brokered_part` what comes of `broker`, whose run is in
+//! `broker_command`.
 #![tactic(auto)]
 
 mod arith_rehearse_command;
+mod brokered_part;
 mod finish;
-mod follow;
 mod generate_command;
 mod many_command;
+mod node_service;
 mod proved_part;
 mod rehearse_command;
 mod run;

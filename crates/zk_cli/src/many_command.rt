@@ -104,8 +104,8 @@ where
         (effects result.status
         (change (F.state shelf.old) (F.state shelf.new)) (change (O.state out.old) (O.state out.new))) }
     ensures headline { ShowsClaims (F.state shelf.old).told (serve_many (serve_many_of ask)) result.part }
-    ensures once { GrantsOnceIn (F.state shelf.old).told (serve_many (serve_many_of ask)) result.part
-        (disk_change (B.state ports.journal) (B.state result.journal)) }
+    ensures once { GrantsOnceIn B.state (F.state shelf.old).told (serve_many (serve_many_of ask))
+        result.part (change ports.journal result.journal) }
     ensures quiet { ask.options.follow ≡ false → E.state notices.new ≡ E.state notices.old }
 {
     let claims = match load_claims(alloc, shelf, &ask) {

@@ -10,9 +10,11 @@ ghost use Rattle.zk_cli.specs.Runs.{run_of};
 ghost use Rattle.file_commands.specs.Journals.{IsJournalDisk, disk_change};
 
 use crate::arith_rehearse_command::run_rehearse_arith;
+use crate::brokered_part::run_brokering;
 use crate::finish::{Finish, Ports};
 use crate::generate_command::run_generate;
 use crate::many_command::run_serve_many;
+use crate::node_service::run_serve_node;
 use crate::proved_part::run_proof;
 use crate::rehearse_command::run_rehearse;
 use crate::serve_command::{run_serve, run_serve_arith};
@@ -49,7 +51,7 @@ where
     requires disk { IsJournalDisk (B.state ports.journal) }
     requires limits { IsWithinLimits command }
     ensures promises { Promises (ask_of known_bits command) seed.now
-        (disk_change (B.state ports.journal) (B.state result.journal)) (run_of F.state D.state D.Link.state
+        (disk_change (B.state ports.journal) (B.state result.journal)) (run_of F.state D.state D.Link.state B.state
         result.status result.part (change shelf.old shelf.new) (change (O.state out.old) (O.state out.new))
         (change ports.journal result.journal) (change ports.door result.door)) }
     ensures quiet { follows (ask_of known_bits command) ≡ false
@@ -79,6 +81,8 @@ where
             Ports { journal, door }.end(status)
         }
         Asks::Node(ask) => ports.end(run_node(alloc, shelf, out, &ask.file, ask.node)),
+        Asks::Broker(ask) => run_brokering(rt, alloc, shelf, ports, out, notices, &ask),
+        Asks::ServeNode(ask) => run_serve_node(rt, alloc, shelf, ports, out, notices, ask),
         Asks::Migrate(ask) => {
             let Ports { mut journal, door } = ports;
             let status = run_migrate(alloc, shelf, &mut journal, out, ask.side, &ask.file);
@@ -109,7 +113,7 @@ where
     requires disk { IsJournalDisk (B.state ports.journal) }
     requires limits { IsWithinLimits command }
     ensures does { DoesGiven (ask_of bits_ask command) seed.now
-        (disk_change (B.state ports.journal) (B.state result.journal)) (run_of F.state D.state D.Link.state
+        (disk_change (B.state ports.journal) (B.state result.journal)) (run_of F.state D.state D.Link.state B.state
         result.status result.part (change shelf.old shelf.new) (change (O.state out.old) (O.state out.new))
         (change ports.journal result.journal) (change ports.door result.door)) }
     ensures quiet { follows (ask_of bits_ask command) ≡ false → E.state notices.new ≡ E.state notices.old }
@@ -149,7 +153,11 @@ where
 /// where a load or the output failed; 5 where the journal failed; and with 7. `status FILE [CIRCUIT] [--node K]` ends with 0 where it is said;
 /// 3 where a file, the circuit or the journal is refused; 4 where a load or the output failed; 5 where the journal failed; and with 7.
 /// `node FILE K` ends with 0 where the node's journal is stored and said; 3 where the file is refused; 4 where a load, the store or the output
-/// failed; and with 7.
+/// failed; and with 7. `broker ADDRESS FILE --asks N [--timeout S] [--follow]` ends with 0 where each want got a block, or no node called; 1
+/// where one sent no want; 3 where the file or the journal is refused; 4 where a load, the door, a link or the output failed; 5 where the
+/// journal failed; 6 where units are missing; and with 7. `serve-node ADDRESS BROKER FILE CIRCUIT OUTPUTS --node K --sessions N [--timeout S]
+/// [--follow]` ends as `serve`, but for 6; with 1 also where no block came that had a session's units, and with 4 where the broker was not called
+/// or its link failed.
 pub fn run_zk<R, F, D, B, O, E>(
     rt: &R,
     alloc: Global,
@@ -174,11 +182,11 @@ where
     requires disk { IsJournalDisk (B.state journal) }
 
     // Words of no command; some may be read as what valid words ask for.
-    ensures usage { asked (texts words.now) ≡ None → SaysUsage (run_of F.state D.state D.Link.state
+    ensures usage { asked (texts words.now) ≡ None → SaysUsage (run_of F.state D.state D.Link.state B.state
         result.status result.part (change shelf.old shelf.new) (change (O.state out.old) (O.state out.new))
         (change journal result.journal) (change door result.door))
         ⊎ ((ask : Ask BitsAsk) × IsReadAs (texts words.now) ask × DoesGiven ask seed.now
-        (disk_change (B.state journal) (B.state result.journal)) (run_of F.state D.state D.Link.state
+        (disk_change (B.state journal) (B.state result.journal)) (run_of F.state D.state D.Link.state B.state
         result.status result.part (change shelf.old shelf.new) (change (O.state out.old) (O.state out.new))
         (change journal result.journal) (change door result.door))) }
     ensures usage_2 { result.status ≡ 2 → asked (texts words.now) ≡ None }
@@ -186,7 +194,7 @@ where
     // Words of a command: with the bits that they and the files that they name give, its record holds of this run; or such a
     // file gives none, and that is said.
     ensures meets { (ask : Ask BitsAsk) → asked (texts words.now) ≡ Some ask → MeetsGiven ask seed.now
-        (disk_change (B.state journal) (B.state result.journal)) (run_of F.state D.state D.Link.state
+        (disk_change (B.state journal) (B.state result.journal)) (run_of F.state D.state D.Link.state B.state
         result.status result.part (change shelf.old shelf.new) (change (O.state out.old) (O.state out.new))
         (change journal result.journal) (change door result.door)) }
 
@@ -199,10 +207,10 @@ where
         → ShowsGiven (F.state shelf.old).told ask result.part }
 
     // Its second part: over this run, with the journal that the disk had, no unit is granted that an earlier run or
-    // another session was granted, whatever crashes leave.
+    // another session was granted, whatever crashes leave: by a service with a ceiling, by a node with claims.
     ensures once { (ask : Ask BitsAsk) → asked (texts words.now) ≡ Some ask
-        → GrantsOnceGiven (F.state shelf.old).told ask result.part
-        (disk_change (B.state journal) (B.state result.journal)) }
+        → GrantsOnceGiven B.state (F.state shelf.old).told ask result.part
+        (change journal result.journal) }
 
     // Nothing is said beside the output, but by a service that is followed.
     ensures quiet { (E.state notices.new ≡ E.state notices.old)

@@ -24,7 +24,6 @@ ghost use Rattle.zk_cli.specs.ServeRuns.{OpeningStop, Serves, ServeStop, service
 ghost use Rattle.zk_cli.specs.ServedNotes.{GrantsOnce, GrantsOnceIn, ShowsClaim, ShowsClaims};
 
 use crate::finish::{Ending, Finish, Part, Ports};
-use crate::follow::{Unheard, say_start};
 use crate::serve_jobs::{fit_jobs, most_units, statements_of};
 use crate::service_files::load_files;
 use crate::watched::{Watched, serve_watched};
@@ -33,7 +32,7 @@ use bristol_reader::one_circuit;
 use claim_files::{ClaimNames, NamedElements};
 use command_words::{ServeArithAsk, ServeAsk, ServeManyAsk, ServeOptions};
 use element_file::elements_are_exact;
-use file_commands::{Refusal, open_ceilings, say_stop};
+use file_commands::{Refusal, Unheard, open_ceilings, say_start, say_stop};
 use lease_store::{LeaseParts, ceilings_start_again};
 use lease_words::Pass;
 use session_core::VerifierJobs;
@@ -53,9 +52,9 @@ pub type Service<'a> = ServeManyAsk<String, &'a [ClaimNames]>;
 
 /// Why nothing is served, with the disk and the door as they are then.
 #[derive(Drop)]
-struct Stopped<B, D> {
-    refusal: Refusal,
-    ports: Ports<B, D>,
+pub(crate) struct Stopped<B, D> {
+    pub refusal: Refusal,
+    pub ports: Ports<B, D>,
 }
 
 /// The sessions that were led, and what became of the calls for their logs.
@@ -383,8 +382,8 @@ where
         (effects result.status
         (change (F.state shelf.old) (F.state shelf.new)) (change (O.state out.old) (O.state out.new))) }
     ensures headline { ShowsClaims (F.state shelf.old).told (serve (serve_of known_bits ask)) result.part }
-    ensures once { GrantsOnceIn (F.state shelf.old).told (serve (serve_of known_bits ask)) result.part
-        (disk_change (B.state ports.journal) (B.state result.journal)) }
+    ensures once { GrantsOnceIn B.state (F.state shelf.old).told (serve (serve_of known_bits ask))
+        result.part (change ports.journal result.journal) }
     ensures quiet { ask.options.follow ≡ false → E.state notices.new ≡ E.state notices.old }
 {
     let named = NamedClaim::new(ask.circuit, ask.public, ask.outputs);
@@ -425,8 +424,8 @@ where
         (effects result.status
         (change (F.state shelf.old) (F.state shelf.new)) (change (O.state out.old) (O.state out.new))) }
     ensures headline { ShowsClaims (F.state shelf.old).told (serve_arith (serve_arith_of ask)) result.part }
-    ensures once { GrantsOnceIn (F.state shelf.old).told (serve_arith (serve_arith_of ask)) result.part
-        (disk_change (B.state ports.journal) (B.state result.journal)) }
+    ensures once { GrantsOnceIn B.state (F.state shelf.old).told (serve_arith (serve_arith_of ask))
+        result.part (change ports.journal result.journal) }
     ensures quiet { ask.options.follow ≡ false → E.state notices.new ≡ E.state notices.old }
 {
     let named = NamedElements::new(ask.circuit, ask.outputs);

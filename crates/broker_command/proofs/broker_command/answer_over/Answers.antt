@@ -5,7 +5,7 @@ use Rattle.lease_store.specs.Ceilings.{HasCeilingHeader}
 use Rattle.session_pool.specs.Doors.{TakesLinks}
 use Rattle.broker_service.specs.Left.{IsBrokered}
 use Rattle.file_commands.specs.Journals.{OpensJournal, disk_change, own_journal}
-use Rattle.broker_command.specs.BrokerRuns.{broker_of}
+use Rattle.command_words.specs.Commands.{broker_of}
 use Rattle.broker_command.proofs.Opening.{answers_wants}
 use Rattle.broker_command.proofs.broker_command.answer_over.Goals as goal
 

@@ -14,7 +14,7 @@ use Rattle.zk_cli.proofs.run.run_zk.Goals as goal
 pub returns-in-Ok-Some-clause-usage_2 : goal.returns-in-Ok-Some-clause-usage_2
 returns-in-Ok-Some-clause-usage_2 g c = λ two. absurd (does_two (ask_of bits_ask c.in-Ok-Some.command) c.args.seed.now
     (disk_change (g.B.Disk.state c.args.journal) (g.B.Disk.state c.run_words.result.journal))
-    (run_of g.F.Shelf.state g.D.Door.state g.D.Link.Link.state c.run_words.result.status c.run_words.result.part
+    (run_of g.F.Shelf.state g.D.Door.state g.D.Link.Link.state g.B.Disk.state c.run_words.result.status c.run_words.result.part
     (change c.args.shelf.now c.run_words.new.shelf) (change (g.O.Sink.state c.args.out.now) (g.O.Sink.state c.run_words.new.out))
     (change c.args.journal c.run_words.result.journal) (change c.args.door c.run_words.result.door)) c.run_words.ensures.does two)
 
@@ -26,7 +26,7 @@ returns-in-Ok-Some-clause-quiet g c =
     c.in-Ok-Some.ensures.alike) c.run_words.ensures.quiet
 
 pub returns-in-Err-clause-meets : goal.returns-in-Err-clause-meets
-returns-in-Err-clause-meets g c = λ ask is_asked. inr (rw c.end-in-Err.ensures (lacks_bits g.F.Shelf.state g.D.Door.state g.D.Link.Link.state ask NoMemory c.say_memory.result
+returns-in-Err-clause-meets g c = λ ask is_asked. inr (rw c.end-in-Err.ensures (lacks_bits g.F.Shelf.state g.D.Door.state g.D.Link.Link.state g.B.Disk.state ask NoMemory c.say_memory.result
     (change (g.O.Sink.state c.args.out.now) (g.O.Sink.state c.say_memory.new.out)) c.args.shelf.now c.args.shelf.now c.args.journal c.args.door
     (inl refl) (loads_nothing (IsGivenName ask) (g.F.Shelf.state c.args.shelf.now)) (inl c.say_memory.ensures)))
 

@@ -5,14 +5,14 @@ use Rattle.zk_model.specs.declared.limits.TheConstants.{MAX_UNITS}
 use Rattle.zk_port.specs.Changes.{change}
 use Rattle.session_core.specs.Jobs.{VerifierJob, VerifierJobs, all_jobs, units_of_job}
 use Rattle.claim_files.specs.NamedClaims.{IsStatementOf}
-use Rattle.zk_cli.specs.ServeRuns.{TakeFewUnits, AreServeJobs, FitStop, service_of}
+use Rattle.zk_cli.specs.ServeRuns.{TakeFewUnits, AreServeJobs, FitStop, ceilings_journal, service_of}
 use Rattle.zk_cli.proofs.Loading.{are_jobs, job_over, lacks_jobs, err_then, lacks_memory, ok_then, parted_jobs}
 use Rattle.zk_cli.proofs.Pairs.{zip_length}
 use Rattle.zk_cli.proofs.serve_command.serve_files.Goals as goal
 
 pub returns-in_default-clause-stop : goal.returns-in_default-clause-stop
 returns-in_default-clause-stop g c =
-    lacks_memory (service_of c.args.service.now) (change (g.F.Shelf.state c.args.shelf.now) (g.F.Shelf.state c.load_files.new.shelf))
+    lacks_memory (ceilings_journal (service_of c.args.service.now)) (service_of c.args.service.now) (change (g.F.Shelf.state c.args.shelf.now) (g.F.Shelf.state c.load_files.new.shelf))
     (g.B.Disk.state c.args.ports.journal) (g.D.Door.state c.args.ports.door) c.requires.some
 
 pub returns-in-Err-fit_jobs-clause-stop : goal.returns-in-Err-fit_jobs-clause-stop
@@ -20,7 +20,7 @@ returns-in-Err-fit_jobs-clause-stop g c =
     let service = service_of c.args.service.now in
     let file = c.in-Ok.files.file in
     let stated : c.deref-2.result.now ≡ c.in-Ok.files.claims.items = c.deref-2.ensures.value ∙ c.in-Ok-statements_of.ensures ∙ c.deref.ensures.value in
-    lacks_jobs service (change (g.F.Shelf.state c.args.shelf.now) (g.F.Shelf.state c.load_files.new.shelf))
+    lacks_jobs (ceilings_journal service) service (change (g.F.Shelf.state c.args.shelf.now) (g.F.Shelf.state c.load_files.new.shelf))
     (g.B.Disk.state c.args.ports.journal) (g.D.Door.state c.args.ports.door) file c.in-Ok.files.claims.items c.in-Ok.ensures.file c.in-Ok.ensures.claims
     c.requires.some c.requires.most c.requires.kind c.in-Err-fit_jobs.refusal
     (subst (λ (s : List Statement). FitStop (map (job_over service file) s) c.in-Err-fit_jobs.refusal) stated c.in-Err-fit_jobs.ensures.stop)

@@ -7,7 +7,7 @@ use Rattle.session_pool.specs.Doors.{TakesLinks}
 use Rattle.session_pool.specs.Notes.{IsLeft, IsRefusedAmong, IsUnused}
 use Rattle.session_verifier.specs.Outcomes.{grant_fault}
 use Rattle.file_commands.specs.Journals.{JournalStop, OnlyReads, OpensJournal, disk_change, IsCeilingsFault, own_journal}
-use Rattle.zk_cli.specs.ServeRuns.{service_of, units_of_note}
+use Rattle.zk_cli.specs.ServeRuns.{ceilings_journal, service_of, units_of_note}
 use Rattle.zk_cli.proofs.Opening.{first_file, lacks_journal, leads_jobs}
 use Rattle.zk_cli.proofs.serve_command.serve_jobs.Goals as goal
 
@@ -16,7 +16,7 @@ returns-in-Err-clause-stop g c =
     let disk = disk_change (g.B.Disk.state c.args.ports.journal) (g.B.Disk.state c.in-Err.journal) in
     let file : c.file-file.result.now ≡ c.args.jobs.now.first.task.file =
     first_file c.args.jobs.now c.job.result.now c.file-file.result.now c.file-file.ensures.file c.job.ensures in
-    lacks_journal (service_of c.args.service.now) c.args.jobs.now disk
+    lacks_journal (ceilings_journal (service_of c.args.service.now)) (service_of c.args.service.now) c.args.jobs.now disk
     (change (g.D.Door.state c.args.ports.door) (g.D.Door.state c.args.ports.door)) c.in-Err.refusal c.requires.few
     (subst (λ (name : List ℕ). OnlyReads (own_journal name) disk) c.deref.ensures c.in-Err.ensures.reads)
     (subst (λ (f : VerifierFile). JournalStop (IsCeilingsFault f.id f.params.total disk.old) disk c.in-Err.refusal) file c.in-Err.ensures.stop)

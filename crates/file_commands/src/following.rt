@@ -22,6 +22,13 @@ impl Sink for Unheard {
     }
 }
 
+/// Says a text to whoever follows, if memory was enough for it.
+fn say_followed<E: Sink>(alloc: Global, notices: &mut E, text: Result<String, AllocError>) {
+    if let Ok(text) = text {
+        let _ = notices.put(alloc, text.as_bytes());
+    }
+}
+
 /// Where a service listens, how many units are left, and how many sessions of so many units these are enough for.
 fn write_start<D: Door>(
     alloc: Global,
@@ -50,8 +57,27 @@ pub fn say_start<D: Door, E: Sink>(
     ensures { follow ≡ false → E.state notices.new ≡ E.state notices.old }
 {
     if follow {
-        if let Ok(text) = write_start(alloc, door, left, units) {
-            let _ = notices.put(alloc, text.as_bytes());
-        }
+        say_followed(alloc, notices, write_start(alloc, door, left, units));
+    }
+}
+
+/// Where a broker listens, and how many units are left.
+fn write_broker_start<D: Door>(alloc: Global, door: &D, left: u64) -> Result<String, AllocError> {
+    let address = door.address(alloc)?;
+    Ok(format!(in alloc; "listening {address}\nleft {left}\n")?)
+}
+
+/// Says that a broker has begun, where it is followed: where it listens, and how many units are left.
+pub fn say_broker_start<D: Door, E: Sink>(
+    alloc: Global,
+    notices: &mut E,
+    door: &D,
+    follow: bool,
+    left: u64,
+)
+    ensures { follow ≡ false → E.state notices.new ≡ E.state notices.old }
+{
+    if follow {
+        say_followed(alloc, notices, write_broker_start(alloc, door, left));
     }
 }

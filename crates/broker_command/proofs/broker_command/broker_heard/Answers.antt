@@ -5,10 +5,10 @@ use Rattle.broker_links.specs.declared.note.BrokerNote.{BrokerNote}
 use Rattle.file_commands.specs.Effects.{effects}
 use Rattle.file_commands.specs.Journals.{disk_change}
 use Rattle.file_commands.specs.Stops.{PrintsMade}
-use Rattle.broker_command.specs.BrokerRuns.{broker_of}
+use Rattle.command_words.specs.Commands.{broker_of}
 use Rattle.broker_command.specs.NoteLines.{brokered_status, brokered_text}
 use Rattle.broker_command.proofs.BrokerDone.{serves_as_broker}
-use Rattle.broker_command.proofs.broker_command.run_broker.Goals as goal
+use Rattle.broker_command.proofs.broker_command.broker_heard.Goals as goal
 
 pub returns-in-Ok : goal.returns-in-Ok
 returns-in-Ok g c =
