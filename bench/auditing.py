@@ -12,7 +12,7 @@ import tempfile
 from serving import MILLION, Bench, bench_of, blank, run
 
 TOP = pathlib.Path(__file__).resolve().parent.parent
-sys.path.append(str(TOP / "vectors"))
+sys.path.insert(0, str(TOP / "vectors"))
 
 from processes import Service, end_all  # noqa: E402
 

@@ -30,7 +30,7 @@ from circuits import INPUTS, MIXED, random_circuit
 from costs import TURNS, command
 
 TOP = pathlib.Path(__file__).resolve().parent.parent
-sys.path.append(str(TOP / "vectors"))
+sys.path.insert(0, str(TOP / "vectors"))
 
 from dealt_files import deal, journal  # noqa: E402
 from ends import hold  # noqa: E402

@@ -74,10 +74,11 @@ class Job(NamedTuple):
 
 
 class Field(NamedTuple):
-    """So many bytes of a payload, and whether they may stand there."""
+    """So many bytes of a payload, and whether they may stand there; and whether the first ones may, where that is judged before all came."""
 
     size: int
     holds: Callable[[bytes], bool]
+    begins: Optional[Callable[[bytes], bool]] = None
 
 
 def anything(size: int) -> Field:
@@ -145,6 +146,9 @@ def first_bad(place: Place, data: bytes) -> Optional[int]:
     at = 5
     for field in fields:
         part = data[at : at + field.size]
+        for count in range(1, len(part) + 1) if field.begins else ():
+            if not field.begins(part[:count]):
+                return at + count - 1
         if len(part) < field.size:
             return None
         at += field.size
@@ -350,7 +354,7 @@ def lease(end: End, job: Job, grant: Grant) -> Tuple[int, int]:
     if refusal is None and start + count > job.total:
         refusal = f"exhausted at={start} count={count} total={job.total}"
     if refusal is not None:
-        end.refuse(2 if refusal.startswith("exhausted") else 3, refusal)
+        end.refuse({"exhausted": 2, "no-memory": 4}.get(refusal.split(" ")[0], 3), refusal)
     end.units = f"{start}..{start + count}"
     end.send(frame(2, struct.pack("<QII", start, count, job.section)))
     return start, count

@@ -4,6 +4,7 @@ import os
 import pathlib
 import socket
 import subprocess
+import threading
 import time
 from typing import Callable, List, NamedTuple, Optional, Sequence, Set, Tuple, TypeVar
 
@@ -123,3 +124,59 @@ class Service(Process):
             return pathlib.Path(f"/proc/{pid}/task/{pid}/children").read_text().split()
         except OSError:
             return []
+
+
+class Followed(Process):
+    """The program, as it serves at a port that the system chooses, and is followed: it says where it listens, or it is over."""
+
+    def __init__(self, program: Sequence[str], folder: pathlib.Path, words: Sequence[str]):
+        self.words = [*program, *words, "--follow"]
+        pipe = subprocess.PIPE
+        self.process = subprocess.Popen(self.words, cwd=folder, stdout=pipe, stderr=pipe)
+        self.ran: Optional[Ran] = None
+        STARTED.append(self.process)
+        self.said: List[str] = []  # the whole lines, without their ends
+        self.news = threading.Condition()
+        self.hears = True
+        self.hearer = threading.Thread(target=self.hear)
+        self.hearer.start()
+
+    def hear(self) -> None:
+        """Takes what is said up to the end of the process; a line that is cut is none."""
+        for line in self.process.stderr:
+            with self.news:
+                self.said += [line[:-1].decode()] * line.endswith(b"\n")
+                self.news.notify_all()
+        with self.news:
+            self.hears = False
+            self.news.notify_all()
+
+    def address(self) -> Optional[Tuple[str, int]]:
+        """Where it listens, once it says so; none where it is over before."""
+        with self.news:
+            self.news.wait_for(lambda: self.said or not self.hears, SECONDS)
+            if not self.said:
+                return None
+            word, place = self.said[0].split(" ")
+        assert word == "listening", self.said
+        host, port = place.rsplit(":", 1)
+        return host, int(port)
+
+    def lines(self) -> List[str]:
+        """What it has said of its sessions, or of its exchanges."""
+        with self.news:
+            return [line for line in self.said if not line.startswith(("listening ", "left "))]
+
+    def end(self) -> Ran:
+        """What came of it, without what it said to who follows it."""
+        if self.ran is None:
+            stop = threading.Timer(SECONDS, self.process.kill)
+            stop.start()
+            text = self.process.stdout.read()
+            status = self.process.wait()
+            if not stop.is_alive():
+                raise SystemExit(f"{self.words} still ran after {SECONDS} seconds")
+            stop.cancel()
+            self.hearer.join()
+            self.ran = Ran(text.decode(), status)
+        return self.ran

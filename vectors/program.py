@@ -1,9 +1,9 @@
 """The program over files, an output, a door and a journal's disk in memory of which some calls are refused, computed apart from it.
 
 A run is given words, files by their names, what the disk has, the numbers of the calls of the shelf, the sink, the door and the disk
-that fail or find no memory, and the peers that call at the door, or the one to which it connects. What it writes, its status
-and what it hands back follow `docs/CLI.md`, its journal `docs/FORMATS.md`, and its sessions `ends.py`.
-Several peers are served by one worker.
+that fail or find no memory, the peers that call at the door, or the one to which it connects, and the brokers to which a node connects. What
+it writes, its status and what it hands back follow `docs/CLI.md`, its journal `docs/FORMATS.md`, its sessions `ends.py`, and exchanges of
+nodes and brokers `exchanges.py`. Several peers are served by one worker.
 """
 import functools
 import json
@@ -15,7 +15,8 @@ import bristol
 from auditor import audit
 from common import CODE_SEED, FILE_ID, P, PROVER_COINS, VERIFIER_COINS, sha256
 from dealt_files import MAGIC, MOST_UNITS as MOST_DEALT, Params, area, deal, header, header_of, journal, one_area, own_slots
-from ends import MOST_UNITS, End, Job, Link, prove_by, verify_by
+from ends import MOST_UNITS, End, Grant, Job, Link, prove_by, verify_by
+from exchanges import TRIES, Block, Broker, Exchange, Node, Out, Try, answer, ask
 from generated import MOST_GENERATED, generate
 from session import LONG, AnyClaim, Claim, ElementsClaim, Extended
 
@@ -92,8 +93,11 @@ class Outside:
     """What a run is given, and what it has written. A write that fails leaves the first half of its bytes, and a store that fails no file.
     A call that finds no memory does nothing."""
 
-    def __init__(self, files: Dict[str, bytes], disk: Disk, fails: Mapping[str, int] = {}, lacks: Mapping[str, int] = {}):
+    def __init__(
+        self, files: Dict[str, bytes], disk: Disk, fails: Mapping[str, int] = {}, lacks: Mapping[str, int] = {}, brokers: Sequence[Link] = ()
+    ):
         self.files, self.disk, self.written, self.said = files, disk, b"", ""
+        self.brokers = iter(brokers)
         self.fails, self.lacks = fails, lacks
         self.calls = {"shelf": 0, "sink": 0, "door": 0}
 
@@ -475,6 +479,7 @@ OUTCOMES = {
     "exhausted": "exhausted {at} {count} {total}",
     "broken": "journal {first}",
     "no-memory": "memory",
+    "no-block": "block {wants}",
 }
 
 
@@ -497,7 +502,7 @@ def note_line(outcome: str, end: End) -> str:
 def status_of(outcome: str) -> int:
     """The status of a session."""
     name = outcome.split(" ")[0]
-    return {"accepted": 0, "link": 4, "device": 5, "broken": 5, "exhausted": 6, "no-memory": 7}.get(name, 1)
+    return {"accepted": 0, "link": 4, "broker": 4, "device": 5, "broken": 5, "exhausted": 6, "no-memory": 7}.get(name, 1)
 
 
 def log_words(log: List[Tuple[str, bytes]]) -> str:
@@ -804,9 +809,12 @@ class Claims:
 
     def __init__(self, journal: Journal, total: int):
         self.journal, self.total, self.ranges = journal, total, merged(journal.bodies)
+        self.mark = 0
 
     def claim(self, start: int, count: int) -> Optional[str]:
         """Claims these units, or gives the outcome by which they are refused."""
+        if self.mark:
+            return f"broken first={self.mark}"
         end = start + count
         if end > self.total:
             return f"out-of-range total={self.total}"
@@ -822,7 +830,9 @@ class Claims:
             else:
                 self.journal.put((start, end))
         except DiskFailed:
+            self.mark = self.journal.disk.faults
             return "device"
+        self.ranges = ranges
         return None
 
 
@@ -849,7 +859,7 @@ def start_of(note: Note) -> int:
 
 
 def lead_sessions(
-    outside: Outside, jobs: List[Job], leases: Leases, service: Service, peers: List[Link]
+    outside: Outside, jobs: List[Job], grant: Grant, service: Service, peers: List[Link]
 ) -> Tuple[List[Note], int, Set[int]]:
     """The sessions with the peers that call, by their units, the status of the door, and those of the stores of logs. Each log is stored, and
     its line said, when its session has ended."""
@@ -862,7 +872,7 @@ def lead_sessions(
             peer = next(rest, None)
             if peer is None:
                 break
-            notes.append(verify_by(jobs, peer, leases.grant))
+            notes.append(verify_by(jobs, peer, grant))
             if is_logged(service, notes[-1]):
                 store_log(outside, service, notes[-1], stores)
             if service.follow:
@@ -930,16 +940,165 @@ def run_serve_arith(outside: Outside, words: List[str], peers: List[Link]) -> Ca
 def serve(outside: Outside, service: Service, statements: Sequence[AnyClaimed], peers: List[Link]) -> Came:
     jobs = served_jobs(outside, service, statements)
     leases = open_leases(outside.disk, jobs[0].total)
+    begin_service(outside, jobs, service, leases.ceiling)
+    notes, door_status, stores = lead_sessions(outside, jobs, leases.grant, service, peers)
+    settle_logs(outside, service, notes, stores)
+    status = first_status([status_of(outcome) for outcome, _ in notes] + [door_status, *stores])
+    part = "".join(f" {note_words(note)}" for note in notes)
+    return Came(outside.say(served_text(notes, door_status == 4), status), f"served{part}")
+
+
+def begin_service(outside: Outside, jobs: List[Job], service: Service, used: int) -> None:
+    """Listens, and says so to who follows it, where so many units are used."""
     outside.ask_door()
     if service.follow:
-        left, most = jobs[0].total - leases.ceiling, max(job.units(service.section) for job in jobs)
+        left, most = jobs[0].total - used, max(job.units(service.section) for job in jobs)
         outside.said += f"listening {service.address}\nleft {left} sessions {left // most}\n"
-    notes, door_status, stores = lead_sessions(outside, jobs, leases, service, peers)
-    settle_logs(outside, service, notes, stores)
-    statuses = [status_of(outcome) for outcome, _ in notes] + [door_status, *stores]
-    status = next(each for each in (7, 5, 6, 4, 1, 0) if each in statuses)
-    part = "".join(f" {outcome} units={end.units} {log_words(end.log)}" for outcome, end in notes)
-    return Came(outside.say(served_text(notes, door_status == 4), status), f"served{part}")
+
+
+def first_status(statuses: List[int]) -> int:
+    """The status of a run whose parts have these."""
+    return next(each for each in (7, 5, 6, 4, 1, 0) if each in statuses)
+
+
+def note_words(note: Note) -> str:
+    outcome, end = note
+    return f"{outcome} units={end.units} {log_words(end.log)}"
+
+
+# ---- a node and its broker
+
+
+class Lender:
+    """Grants units of a node's block, and asks the brokers to which it connects for others."""
+
+    def __init__(self, outside: Outside, node: Node):
+        self.outside, self.node = outside, node
+        self.tries: List[Try] = []
+
+    def connect(self) -> Union[Link, str]:
+        """The next broker, or the outcome by which there is none."""
+        try:
+            self.outside.ask_door()
+        except Stopped as stopped:
+            return "broker" if stopped.status == 4 else "no-memory"
+        return next(self.outside.brokers, None) or "broker"
+
+    def ask(self, count: int) -> Optional[str]:
+        """Makes a try, and takes the block that came, if one did; or gives the outcome that ends the grant."""
+        link = self.connect()
+        if isinstance(link, str):
+            return link
+        self.tries.append(ask(link, self.node.want(count)))
+        outcome, reply, _ = self.tries[-1]
+        if outcome in ("link", "no-memory"):
+            return {"link": "broker"}.get(outcome, outcome)
+        refusal = self.node.take(reply) if isinstance(reply, Block) else None
+        return refusal if refusal and refusal.split(" ")[0] in ("device", "broken") else None
+
+    def grant(self, count: int) -> Tuple[int, Optional[str]]:
+        """The first of the units that are drawn, or the outcome by which they are refused."""
+        self.tries = []
+        refusal: Optional[str] = None
+        while (start := self.node.draw(count)) is None and refusal is None:
+            refusal = self.ask(count) if len(self.tries) < TRIES else f"no-block wants={TRIES}"
+        return start or 0, refusal
+
+
+class NodeNote(NamedTuple):
+    """A session of a node, with the tries that its grant made."""
+
+    note: Note
+    tries: List[Try]
+
+    def words(self) -> str:
+        return note_words(self.note) + "".join(f" try {each.words()}" for each in self.tries)
+
+
+def lead_by_node(outside: Outside, jobs: List[Job], lender: Lender, service: Service, peers: List[Link]) -> Tuple[List[NodeNote], int]:
+    """The sessions of a node with the peers that call, one after another, and the status of the door."""
+    notes: List[NodeNote] = []
+    rest = iter(peers)
+    try:
+        while len(notes) < service.sessions:
+            outside.ask_door()
+            peer = next(rest, None)
+            if peer is None:
+                break
+            lender.tries = []
+            note = verify_by(jobs, peer, lender.grant)
+            notes.append(NodeNote(note, lender.tries))
+            if service.follow:
+                outside.said += note_line(*note)
+    except Stopped as stopped:
+        return notes, stopped.status
+    return notes, 0
+
+
+def run_serve_node(outside: Outside, words: List[str], peers: List[Link]) -> Came:
+    (address, _, file, circuit, outputs), options = sorted_words(words, ["--node", "--sessions", "--timeout"], ["--follow"])
+    outputs_said, number = bits_word(outputs), read_number(options["--node"], 0, 1023)
+    del options["--node"]
+    service = read_service(address, file, options)
+    claimed = Claimed(circuit, [], bits_given(outside, outputs_said, circuit, "outputs"))
+    jobs = served_jobs(outside, service, [claimed])
+    claims = open_claims(outside.disk, jobs[0].total)
+    begin_service(outside, jobs, service, used_by(claims))
+    notes, door_status = lead_by_node(outside, jobs, Lender(outside, Node(number, claims.claim)), service, peers)
+    notes.sort(key=lambda each: start_of(each.note))
+    status = first_status([status_of(each.note[0]) for each in notes] + [door_status])
+    part = "".join(f" {each.words()}" for each in notes)
+    return Came(outside.say(served_text([each.note for each in notes], door_status == 4), status), f"served{part}")
+
+
+def exchange_line(exchange: Exchange) -> str:
+    """The line of an exchange, as `broker` prints it."""
+    outcome, want, reply, _ = exchange
+    if want is None or reply is None:
+        return f"no want {outcome_words(outcome)}\n"
+    answered = f"out {reply.at}" if isinstance(reply, Out) else "block {}..{}".format(*reply.span())
+    return f"want {want.node} {want.number} {answered}\n"
+
+
+def exchange_status(exchange: Exchange) -> int:
+    """The status of an exchange."""
+    if exchange.outcome != "answered":
+        return status_of(exchange.outcome)
+    return 6 if isinstance(exchange.reply, Out) else 0
+
+
+def answer_all(outside: Outside, broker: Broker, asks: int, follow: bool, peers: List[Link]) -> Tuple[List[Exchange], int]:
+    """The exchanges with the nodes that call, and the status of the door."""
+    exchanges: List[Exchange] = []
+    rest = iter(peers)
+    try:
+        while len(exchanges) < asks:
+            outside.ask_door()
+            peer = next(rest, None)
+            if peer is None:
+                break
+            exchanges.append(answer(broker, peer))
+            if follow:
+                outside.said += exchange_line(exchanges[-1])
+    except Stopped as stopped:
+        return exchanges, stopped.status
+    return exchanges, 0
+
+
+def run_broker(outside: Outside, words: List[str], peers: List[Link]) -> Came:
+    (address, file), options = sorted_words(words, ["--asks", "--timeout"], ["--follow"])
+    asks, follow = read_number(options["--asks"], 1, 65536), "--follow" in options
+    read_number(options.get("--timeout", "120"), 1, 86400)
+    total = read_dealt(1, outside.load(file)).total
+    leases = open_leases(outside.disk, total)
+    outside.ask_door()
+    if follow:
+        outside.said += f"listening {address}\nleft {total - leases.ceiling}\n"
+    exchanges, door_status = answer_all(outside, Broker(leases.grant), asks, follow, peers)
+    status = first_status([exchange_status(each) for each in exchanges] + [door_status])
+    part = "".join(f" {each.words()} {log_words(each.end.log)}" for each in exchanges)
+    text = "".join(map(exchange_line, exchanges)) + ("door failed\n" if door_status == 4 else "")
+    return Came(outside.say(text, status), f"brokered{part}")
 
 
 # How sessions of a prover are said: their lines, and their statuses.
@@ -1103,25 +1262,30 @@ def run_migrate(outside: Outside, words: List[str]) -> Came:
 # ---- what is left
 
 
+def used_by(claims: Claims) -> int:
+    return sum(end - start for start, end in claims.ranges)
+
+
 def run_status(outside: Outside, words: List[str]) -> Came:
-    places, _ = sorted_words(words, [], [])
+    places, options = sorted_words(words, ["--node"], [])
     name, *circuits = places
     if len(circuits) > 1:
         raise ValueError(words)
+    by_node = "--node" in options
+    if by_node:
+        read_number(options["--node"], 0, 1023)
     data = outside.load(name)
-    side = 1 if data[8:9] == b"\1" else 0
+    side = 1 if by_node or data[8:9] == b"\1" else 0
     params = read_dealt(side, data)
     units = units_of_circuit(params, load_circuit(outside, circuits[0])) if circuits else 0
-    if side:
-        used = open_leases(outside.disk, params.total).ceiling
-    else:
-        used = sum(end - start for start, end in open_claims(outside.disk, params.total).ranges)
+    leases = side and not by_node
+    used = open_leases(outside.disk, params.total).ceiling if leases else used_by(open_claims(outside.disk, params.total))
     left = params.total - used
     kind = f"extended {params.trees} {params.height} {params.base}" if params.kind else "direct"
     lines = f"id {data[32:64].hex()}\nunits {params.total} {kind}\nused {used} left {left}\n"
     if circuits:
         sessions = left // units if units <= MOST_UNITS else 0
-        lines += f"sessions {'' if side else 'at most '}{sessions}\n"
+        lines += f"sessions {'' if leases else 'at most '}{sessions}\n"
     return Came(outside.say(lines, 0), "plain")
 
 
@@ -1171,7 +1335,7 @@ def run(outside: Outside, words: List[str], peers: List[Link]) -> Came:
     commands = {"eval": run_eval, "rehearse": run_rehearse, "deal": run_deal, "audit": run_audit, "migrate": run_migrate, "status": run_status}
     commands |= {"rehearse-arith": run_rehearse_arith, "audit-arith": run_audit_arith, "node": run_node}
     parties = {"serve": run_serve, "serve-many": run_serve_many, "prove": run_prove}
-    parties |= {"serve-arith": run_serve_arith, "prove-arith": run_prove_arith}
+    parties |= {"serve-arith": run_serve_arith, "prove-arith": run_prove_arith, "broker": run_broker, "serve-node": run_serve_node}
     try:
         if words[0] in parties:
             return parties[words[0]](outside, words[1:], peers)

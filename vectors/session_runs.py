@@ -18,6 +18,7 @@ from typing import Callable, Dict, Iterable, Iterator, List, NamedTuple, Optiona
 
 import arith_runs
 import bristol
+import broker_runs
 import dealt_files
 import program
 import stored_runs
@@ -311,22 +312,30 @@ def digest_of(data: bytes, count: int, most: int) -> str:
     return sha256(data[:most]).hex()
 
 
-def run_line(scenario: Scenario, name: str, words: List[str], peers: List[Link], outside: program.Outside) -> str:
-    came = program.run(outside, words, peers)
+class Links(NamedTuple):
+    """Who calls at the door, or is called in a proof, and the brokers to which a node connects."""
+
+    peers: List[Link]
+    brokers: List[Link]
+
+
+def run_line(scenario: Scenario, name: str, words: List[str], links: Links, outside: program.Outside) -> str:
+    outside.brokers = iter(links.brokers)
+    came = program.run(outside, words, links.peers)
     written = program.quoted(outside.written)
     said = f" said={program.quoted(outside.said.encode())}" if outside.said else ""
     return f"{name}status={came.status} written={written}{said} {came.part}{shown(scenario, outside)}"
 
 
-def run_lines(scenario: Scenario, name: str, words: List[str], peers: Callable[[], List[Link]]) -> List[str]:
+def run_lines(scenario: Scenario, name: str, words: List[str], links: Callable[[], Links]) -> List[str]:
     """The line of a run, and where a crash follows that of the same over what it leaves of the disk, where no call is refused."""
-    claims = words[0] in ("prove", "prove-arith") or words[:2] in (["migrate", "prover"], ["status", "x.prover"])
+    claims = words[0] in ("prove", "prove-arith") or words[:2] in (["migrate", "prover"], ["status", "x.prover"]) or "--node" in words
     outside = outside_of(scenario, 0 if claims else 1)
-    lines = [run_line(scenario, name, words, peers(), outside)]
+    lines = [run_line(scenario, name, words, links(), outside)]
     if "crash" in scenario.words:
         disk = program.Disk(outside.disk.left(scenario.words["crash"]), 0)
         files = outside_of(scenario, 1).files
-        lines.append(run_line(scenario, "again ", words, peers(), program.Outside(files, disk)))
+        lines.append(run_line(scenario, "again ", words, links(), program.Outside(files, disk)))
     return lines
 
 
@@ -336,24 +345,29 @@ def words_lines(scenario: Scenario) -> List[str]:
         circuit, pattern = READ[scenario.words.get("circuit", "and.txt")], scenario.words.get("bits", "1")
         private = range(scenario.number("public", 0), circuit.inputs)
         words[words.index("BITS")] = "".join(pattern[i % len(pattern)] for i in private)
-    scripts = [bytes.fromhex(script) for script in scenario.words.get("calls", "").split(",") if script]
-    return peers_lines(scenario, words, scripts)
+    return peers_lines(scenario, words, stated_scripts(scenario, "calls"))
+
+
+def stated_scripts(scenario: Scenario, name: str) -> List[bytes]:
+    """What peers send, in hex, or `-` for nothing."""
+    return [b"" if script == "-" else bytes.fromhex(script) for script in scenario.words.get(name, "").split(",") if script]
 
 
 def peers_lines(scenario: Scenario, words: List[str], honest: List[bytes]) -> List[str]:
-    """Runs of these words with these peers, which are honest but for the one that is stated."""
-    stated = scenario.number("peer", 0)
+    """Runs of these words with these peers and the brokers behind them, which do as they are said to but for the one that is stated."""
+    stated, brokers = scenario.number("peer", 0), stated_scripts(scenario, "brokers")
+    scripts = honest + brokers
     lines = []
-    script = honest[stated] if stated < len(honest) else b""
+    script = scripts[stated] if stated < len(scripts) else b""
     for name, changed_script, refused in cases_of(scenario, script_of(scenario, script)):
 
-        def peers() -> List[Link]:
-            calling = [Link(each) for each in honest]
+        def links() -> Links:
+            calling = [Link(each) for each in scripts]
             link = Link(changed_script, scenario.number("pieces", MOST_RECEIVED), **refused)
-            calling[stated : stated + 1] = [link] if calling else []
-            return calling
+            calling[stated : stated + 1] = [link] if stated < len(calling) else []
+            return Links(calling[: len(honest)], calling[len(honest) :])
 
-        lines += run_lines(scenario, name, words, peers)
+        lines += run_lines(scenario, name, words, links)
     return lines
 
 
@@ -361,6 +375,9 @@ def service_words(scenario: Scenario, job: Job) -> List[str]:
     words = ["serve", "here", "x.verifier", scenario.words.get("circuit", "and.txt"), bristol.word_of(list(job.outputs))]
     if "statements" in scenario.words:
         words = ["serve-many", "here", "x.verifier", "statements"]
+    if "node" in scenario.words:
+        words = ["serve-node", "here", "there", *words[2:], "--node", scenario.words["node"], "--sessions", scenario.words.get("sessions", "1")]
+        return words + ["--follow"] * ("follow" in scenario.words)
     words += ["--sessions", scenario.words.get("sessions", "1"), "--section", str(job.section)]
     for name in ("workers", "logs"):
         words += [f"--{name}", scenario.words[name]] if name in scenario.words else []
@@ -1407,6 +1424,7 @@ def all_scenarios() -> List[Scenario]:
     parts += [public_sessions(), several_statements(), public_runs(), generated_runs(), public_ends(), audits()]
     parts += [many_services(), statement_files(), audit_runs()]
     parts += [[run(words, **given) for words, given in arith_runs.rows()]]
+    parts += [[line(end, **given) for end, given in broker_runs.rows()]]
     parts += [areas(), heads(), full_claims(), full_ceilings(), refused_sends()]
     parts += [dealings(), nodes(), versions(), file_faults(), migrations()]
     parts += [lacking_runs(), lacking_sessions(), lacking_ends(), stops()]
