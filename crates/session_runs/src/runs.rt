@@ -54,7 +54,7 @@ impl fmt::Display for HandedBack<'_> {
             Part::Brokered(notes) => {
                 write!(f, "brokered")?;
                 for note in notes {
-                    write!(f, " {}", brokered(note))?;
+                    write!(f, " {}", exchange_of(note))?;
                 }
                 Ok(())
             }
@@ -77,7 +77,8 @@ impl fmt::Display for Brokered<'_> {
     }
 }
 
-fn brokered(note: &BrokerNote<PieceLink, LeaseFault>) -> Brokered<'_> {
+/// What came of an exchange with a node.
+fn exchange_of(note: &BrokerNote<PieceLink, LeaseFault>) -> Brokered<'_> {
     Brokered {
         ended: Exchanged {
             outcome: &note.outcome,
