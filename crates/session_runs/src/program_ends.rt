@@ -57,14 +57,16 @@ fn push_public(alloc: Global, words: &mut Vec<String>, public: &[bool]) -> Resul
 
 /// The words that name a service, and what it is about.
 fn service_line_of(alloc: Global, claimed: &Claimed<'_, '_>) -> Result<String> {
-    let (circuit, section) = (claimed.scenario.circuit, claimed.scenario.section);
+    let scenario = claimed.scenario;
+    let (circuit, section) = (scenario.circuit, scenario.section);
     let outputs = Bits {
         bits: claimed.outputs,
     };
     if claimed.offers_many() {
         return Ok(format!(in alloc; "serve-many,here,x.verifier,statements,--section,{section}")?);
     }
-    let node = claimed.scenario.service.node;
+    let service = scenario.service;
+    let node = service.node;
     if !node.is_empty() {
         return Ok(format!(in alloc;
             "serve-node,here,there,x.verifier,{circuit},{outputs},--node,{node}"
