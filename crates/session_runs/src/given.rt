@@ -16,7 +16,7 @@ use std::collections::BTreeMap;
 use twin_journal::JournalKind;
 
 /// How many calls a disk has room for, beside one for each 32 bytes.
-const DISK_CALLS: usize = 100;
+const DISK_CALLS: usize = 160;
 
 /// What stands there before a run: files by their names, what the journal's disk has, and for how many bytes it has room.
 #[derive(Drop)]
