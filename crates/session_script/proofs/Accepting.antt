@@ -11,7 +11,7 @@ use Rattle.session_driver.specs.Leaving.{TriesCode, KeepsBack}
 use Rattle.session_driver.specs.declared.drive.Outcome.{Outcome}
 use Rattle.session_driver.specs.declared.drive.Outcome.TheVariants.{Done, Refused, Cut}
 use Rattle.session_script.specs.declared.fault.EndFault.{EndFault}
-use Rattle.session_script.specs.Scripts.{said_by, log_of, first_places, after_in, left_after, next_of, own_of, refusal_at, Fills, Rules, Stage, stage_of, Fits, Passes, StopsAt, ScriptLeaves, EndsAccepted, EndsSo}
+use Rattle.session_script.specs.Scripts.{said_by, log_of, after_in, left_after, next_of, own_of, refusal_at, Fills, Rules, Stage, stage_of, Fits, Passes, StopsAt, ScriptLeaves, EndsAccepted, EndsSo}
 use Rattle.session_script.proofs.Scripting.{next_front, peers, allowed_side}
 use Rattle.session_script.proofs.Reading.{is_refusal, spelled, GoesOn, one_reading, none_more, same_bytes, last_by, last_behind, last_one, last_side, last_said, passes_fill, fills_more}
 use Rattle.session_script.proofs.Led.{log_on}
@@ -63,19 +63,19 @@ none_behind : (behind : Grant → List Expect) (left : List Expect) (code : ℕ)
 none_behind behind left code [] bytes some = cc
 none_behind behind left code (next ∷ more) bytes some = some
 
-no_refusal : (behind : Grant → List Expect) (frames others : List Frame) (left : List Expect) (number code : ℕ)
-    → Fills behind first_places (others ++ verdict 0 number ∷ []) []
+no_refusal : (behind : Grant → List Expect) (places : List Expect) (frames others : List Frame) (left : List Expect) (number code : ℕ)
+    → Fills behind places (others ++ verdict 0 number ∷ []) []
     → GoesOn behind frames left (refuse_frame code) (others ++ verdict 0 number ∷ []) [] []
     ⊎ GoesOn behind (others ++ verdict 0 number ∷ []) [] [] frames left (refuse_frame code) → ⊥
-no_refusal behind frames others left number code ends (inl on) = refusal_last behind frames others left number code on.more on.is on.bytes on.fills
-no_refusal behind frames others left number code ends (inr on) = none_behind behind left code on.more on.bytes on.fills
+no_refusal behind places frames others left number code ends (inl on) = refusal_last behind frames others left number code on.more on.is on.bytes on.fills
+no_refusal behind places frames others left number code ends (inr on) = none_behind behind left code on.more on.bytes on.fills
 
-module _ (behind : Grant → List Expect) (frames others : List Frame) (left : List Expect) (number : ℕ) (log : List (Side × ℕ))
-    (fills : Fills behind first_places frames left) (ends : Fills behind first_places (others ++ verdict 0 number ∷ []) [])
+module _ (behind : Grant → List Expect) (places : List Expect) (frames others : List Frame) (left : List Expect) (number : ℕ) (log : List (Side × ℕ))
+    (fills : Fills behind places frames left) (ends : Fills behind places (others ++ verdict 0 number ∷ []) [])
     (logged : log ≡ log_of (others ++ verdict 0 number ∷ [])) where
   -- frames with this log are those, and leave nothing
   pub same_frames : log ≡ log_of frames → (frames ≡ others ++ verdict 0 number ∷ []) × (left ≡ [])
-  same_frames is = found (one_reading behind first_places frames (others ++ verdict 0 number ∷ []) left [] [] [] fills ends
+  same_frames is = found (one_reading behind places frames (others ++ verdict 0 number ∷ []) left [] [] [] fills ends
       (same_bytes frames (others ++ verdict 0 number ∷ []) Prover [] (append-nil (log_of frames) ∙ sym is ∙ logged)))
     where
       found : GoesOn behind frames left [] (others ++ verdict 0 number ∷ []) [] [] ⊎ GoesOn behind (others ++ verdict 0 number ∷ []) [] [] frames left []
@@ -100,8 +100,8 @@ module _ (behind : Grant → List Expect) (frames others : List Frame) (left : L
 
   -- nor a refusal
   pub not_refused : (code : ℕ) → log ≡ log_of frames ++ bytes_from Verifier (refuse_frame code) → ⊥
-  not_refused code is = no_refusal behind frames others left number code ends
-      (one_reading behind first_places frames (others ++ verdict 0 number ∷ []) left [] (refuse_frame code) [] fills ends
+  not_refused code is = no_refusal behind places frames others left number code ends
+      (one_reading behind places frames (others ++ verdict 0 number ∷ []) left [] (refuse_frame code) [] fills ends
       (same_bytes frames (others ++ verdict 0 number ∷ []) Verifier (refuse_frame code) (sym is ∙ logged)))
 
 -- ---- runs
@@ -119,9 +119,9 @@ by_kept code log bytes fault first now (inl lacks) = by_code code log first now 
 by_kept code log bytes fault first now (inr lost) = inl lost.logged
 
 module _ {K F : Type 0} (rules : Rules K F) (known new : K) (first now : LinkSnapshot) (frames : List Frame) (stage : Stage K)
-    (passed : Passes rules (stage_of known first_places) frames stage) (waits : own_of Verifier stage.left ≡ None) (ends : EndsAccepted rules.behind now.log) where
-  fills : Fills rules.behind first_places frames stage.left
-  fills = passes_fill rules (stage_of known first_places) stage frames passed
+    (passed : Passes rules (stage_of known rules.places) frames stage) (waits : own_of Verifier stage.left ≡ None) (ends : EndsAccepted rules.behind rules.places now.log) where
+  fills : Fills rules.behind rules.places frames stage.left
+  fills = passes_fill rules (stage_of known rules.places) stage frames passed
 
   from_prover : (place : Expect) (frame : Frame) → next_of stage.left ≡ Some place → Allows place frame → said_by frame ≡ Prover
   from_prover place frame next allowed =
@@ -141,24 +141,24 @@ module _ {K F : Type 0} (rules : Rules K F) (known new : K) (first now : LinkSna
 
       by : (now.log ≡ log_of frames ++ bytes_from Prover (frame_spelling frame))
           ⊎ ((n : ℕ) × (now.log ≡ (log_of frames ++ bytes_from Prover (frame_spelling frame)) ++ bytes_from Verifier (refuse_frame n))) → ⊥
-      by (inl same) = not_heard rules.behind frames ends.frames stage.left ends.number now.log fills ends.fills ends.logged frame from (same ∙ heard)
+      by (inl same) = not_heard rules.behind rules.places frames ends.frames stage.left ends.number now.log fills ends.fills ends.logged frame from (same ∙ heard)
       by (inr (n, same)) =
-          not_refused rules.behind (frames ++ frame ∷ []) ends.frames (left_after rules.behind (drop 1 stage.left) (after_in frame)) ends.number now.log
-          (fills_more rules.behind first_places stage.left (drop 1 stage.left) place frames frame fills (next_front stage.left place next) allowed)
+          not_refused rules.behind rules.places (frames ++ frame ∷ []) ends.frames (left_after rules.behind (drop 1 stage.left) (after_in frame)) ends.number now.log
+          (fills_more rules.behind rules.places stage.left (drop 1 stage.left) place frames frame fills (next_front stage.left place next) allowed)
           ends.fills ends.logged n (same ∙ ap (λ l. l ++ bytes_from Verifier (refuse_frame n)) heard)
 
   by_rest : (place : Expect) (rest : List ℕ) → next_of stage.left ≡ Some place → now.log ≡ log_of frames ++ bytes_from Prover rest → ⊥
   by_rest place [] next is =
-      let found = same_frames rules.behind frames ends.frames stage.left ends.number now.log fills ends.fills ends.logged (is ∙ append-nil (log_of frames)) in
+      let found = same_frames rules.behind rules.places frames ends.frames stage.left ends.number now.log fills ends.fills ends.logged (is ∙ append-nil (log_of frames)) in
       let none : None ≡ Some place = sym (ap next_of found.1) ∙ next in cc
   by_rest place (byte ∷ rest) next is =
-      not_begun rules.behind frames ends.frames stage.left ends.number now.log fills ends.fills ends.logged byte rest is
+      not_begun rules.behind rules.places frames ends.frames stage.left ends.number now.log fills ends.fills ends.logged byte rest is
 
   by_stop : (outcome : Outcome (EndFault F)) → StopsAt rules Verifier [] frames stage new outcome first now → EndsSo rules outcome new
   by_stop Done over =
-      let found = same_frames rules.behind frames ends.frames stage.left ends.number now.log fills ends.fills ends.logged over.well.logged in
-      let last = passes_last rules (stage_of known first_places) stage ends.frames (verdict 0 ends.number)
-      (subst (λ l. Passes rules (stage_of known first_places) l stage) found.0 passed) in
+      let found = same_frames rules.behind rules.places frames ends.frames stage.left ends.number now.log fills ends.fills ends.logged over.well.logged in
+      let last = passes_last rules (stage_of known rules.places) stage ends.frames (verdict 0 ends.number)
+      (subst (λ l. Passes rules (stage_of known rules.places) l stage) found.0 passed) in
       record { over = refl; stage = last.0; number = ends.number; said = subst (λ k. rules.passes last.0.known (verdict 0 ends.number) k) (sym over.same) last.1.passes }
   by_stop (Refused fault) down = absurd (heard_no down.place down.frame down.next down.allowed
       (by_code (refusal_at stage.left _) (log_of frames ++ bytes_from Prover (frame_spelling down.frame)) first now down.tried))
@@ -171,7 +171,7 @@ module _ {K F : Type 0} (rules : Rules K F) (known new : K) (first now : LinkSna
 
 -- of an end of the verifier's side, which greets by nothing
 pub accepts : {K F : Type 0} (rules : Rules K F) (side : Side) (greeting : List Frame) (old : Stage K) (new : K) (outcome : Outcome (EndFault F)) (first now : LinkSnapshot)
-    → side ≡ Verifier → greeting ≡ [] → old.left ≡ first_places → ScriptLeaves rules side greeting old new outcome first now → EndsAccepted rules.behind now.log
+    → side ≡ Verifier → greeting ≡ [] → old.left ≡ rules.places → ScriptLeaves rules side greeting old new outcome first now → EndsAccepted rules.behind rules.places now.log
     → EndsSo rules outcome new
 accepts {K} rules side greeting old new outcome first now verifier silent begins leaves ends =
     let is = subst (λ (q : Side × List Frame × List Expect). ScriptLeaves rules q.0 q.1 (stage_of old.known q.2) new outcome first now)

@@ -19,7 +19,7 @@ use Rattle.proof_frames.specs.Readings.{IsShortPlace}
 use Rattle.proof_frames.proofs.Lengths.{whole_length}
 use Rattle.session_script.specs.declared.after.After.{After}
 use Rattle.session_script.specs.declared.after.After.TheVariants.{Behind, Nothing, Rest}
-use Rattle.session_script.specs.Scripts.{side_at, said_by, Says, after_in, left_after, next_of, own_of, place_weight, weight, weight_after, Rules, Stage, stage_of, Fits, Passes, Reached, FailsThere, AnswerFails, TurnsDown, first_places}
+use Rattle.session_script.specs.Scripts.{side_at, said_by, Says, after_in, left_after, next_of, own_of, place_weight, weight, weight_after, Rules, Stage, stage_of, Fits, Passes, Reached, FailsThere, AnswerFails, TurnsDown}
 use Rattle.session_script.specs.declared.fault.EndFault.{EndFault}
 use Rattle.session_script.specs.declared.fault.EndFault.TheVariants.{NoMemory}
 
@@ -206,7 +206,7 @@ reached_on rules mid new frames reached passes = record {
   start = reached.start;
   begins = reached.begins;
   frames = reached.frames ++ frames;
-  passed = passes_on rules (stage_of reached.start first_places) mid new reached.frames frames reached.passed passes;
+  passed = passes_on rules (stage_of reached.start rules.places) mid new reached.frames frames reached.passed passes;
 }
 
 -- at the place that comes next

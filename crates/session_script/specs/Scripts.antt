@@ -63,10 +63,6 @@ log_of frames = flat_map (λ frame. bytes_from (said_by frame) (frame_spelling f
 
 -- ---- places
 
--- the places of every session, of which the second leaves the others
-abbrev pub first_places : List Expect
-first_places = expect.Hello ∷ expect.Grant ∷ []
-
 -- what a frame leaves: a grant the places of its session, a refusal none, another frame those after its own
 abbrev pub after_in : Frame → After
 after_in (hello said) = Rest
@@ -121,10 +117,11 @@ Fills behind (place ∷ places) (frame ∷ frames) left =
 
 -- ---- what an end knows, and what it does by that
 
--- What an end goes by: what it may know before all frames; what it knows once a frame has passed, the peer's or its own; why it refuses
+-- What an end goes by: the places of its session before all frames, and what it may know then; what it knows once a frame has passed, the peer's or its own; why it refuses
 -- a frame of the peer's, and what it knows then; why it says none at a place of its own; the code of a refusal for that; and which places
 -- a grant leaves.
 pub record Rules (K F : Type 0) : Type 1 where
+  pub places : List Expect
   pub first : K → Type 0
   pub passes : K → Frame → K → Type 0
   pub refuses : K → Frame → F → K → Type 0
@@ -160,7 +157,7 @@ pub record Reached {K F : Type 0} (rules : Rules K F) (stage : Stage K) : Type 0
   pub start : K
   pub begins : rules.first start
   pub frames : List Frame
-  pub passed : Passes rules (stage_of start first_places) frames stage
+  pub passed : Passes rules (stage_of start rules.places) frames stage
 
 -- ---- an end that goes by a script
 
@@ -194,6 +191,7 @@ TurnsDown {K} {F} side rules old frame fault known =
 abbrev pub refusal_at : List Expect → ℕ → Option ℕ
 refusal_at [] code = None
 refusal_at (expect.Hello ∷ places) code = Some code
+refusal_at (expect.ShortHello ∷ places) code = Some code
 refusal_at (place ∷ places) code = None
 
 -- that for missing memory has code 4
@@ -279,10 +277,10 @@ pub record ScriptLeaves {K F : Type 0} (rules : Rules K F) (side : Side) (greeti
   pub come : HasCome (peer_of side) first now
 
 -- A log of whole frames that fill a script, of which the last is an acceptance.
-pub record EndsAccepted (behind : Grant → List Expect) (log : List (Side × ℕ)) : Type 0 where
+pub record EndsAccepted (behind : Grant → List Expect) (places : List Expect) (log : List (Side × ℕ)) : Type 0 where
   pub frames : List Frame
   pub number : ℕ
-  pub fills : Fills behind first_places (frames ++ verdict 0 number ∷ []) []
+  pub fills : Fills behind places (frames ++ verdict 0 number ∷ []) []
   pub logged : log ≡ log_of (frames ++ verdict 0 number ∷ [])
 
 -- The session is over, and the verdict that was said last accepts.

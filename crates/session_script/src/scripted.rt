@@ -218,7 +218,7 @@ fn refusal(left: &VecDeque<Expect>, code: u8) -> Option<u8>
     ensures { result ≡ refusal_at left.now.items code }
 {
     match next(left) {
-        Some(Expect::Hello) => Some(code),
+        Some(Expect::Hello | Expect::ShortHello) => Some(code),
         _ => None,
     }
 }

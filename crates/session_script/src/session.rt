@@ -4,7 +4,7 @@ ghost use Rattle.std.specs.Thread.{IsSync};
 ghost use Rattle.frame_link.specs.Lines.{snapshot_of};
 ghost use Rattle.zk_model.specs.declared.Side.TheVariants.{Verifier};
 ghost use Rattle.session_driver.specs.Runs.{IsFresh};
-ghost use Rattle.session_script.specs.Scripts.{EndsAccepted, EndsSo, Says, ScriptLeaves, Reached, first_places, own_of, stage_of, weight};
+ghost use Rattle.session_script.specs.Scripts.{EndsAccepted, EndsSo, Says, ScriptLeaves, Reached, own_of, stage_of, weight};
 
 use crate::fault::EndFault;
 use crate::scripted::Scripted;
@@ -34,8 +34,8 @@ pub fn lead<R: Threads + Sync, O, V: Voice<O>, L: Link>(
     ensures leaves { ScriptLeaves (V.rules (V.task end.old.voice)) V.side (V.greeting (V.task end.old.voice))
         (stage_of (V.known end.old.voice asked.old) end.old.left.items) (V.known end.new.voice asked.new) result
         (snapshot_of line.old) (snapshot_of line.new) }
-    ensures exact { V.side ≡ Verifier → V.greeting (V.task end.old.voice) ≡ [] → end.old.left.items ≡ first_places
-        → EndsAccepted (V.rules (V.task end.old.voice)).behind line.new.log
+    ensures exact { V.side ≡ Verifier → V.greeting (V.task end.old.voice) ≡ [] → end.old.left.items ≡ (V.rules (V.task end.old.voice)).places
+        → EndsAccepted (V.rules (V.task end.old.voice)).behind (V.rules (V.task end.old.voice)).places line.new.log
         → EndsSo (V.rules (V.task end.old.voice)) result (V.known end.new.voice asked.new) }
     ensures task { V.task end.new.voice ≡ V.task end.old.voice }
 {
