@@ -172,3 +172,9 @@ last_said [] frame =
     ap (last_by (λ (entry : Side × ℕ). entry.0)) (append-nil (bytes_from (said_by frame) (frame_spelling frame)) ∙ ap (bytes_from (said_by frame)) byte.2)
     ∙ last_side (said_by frame) byte.0 byte.1
 last_said (first ∷ frames) frame = last_behind (λ (entry : Side × ℕ). entry.0) (bytes_from (said_by first) (frame_spelling first)) (log_of (frames ++ frame ∷ [])) (said_by frame) (last_said frames frame)
+
+-- a log of some frames has a byte
+pub some_logged : (frames : List Frame) (frame : Frame) → [] ≡ log_of (frames ++ frame ∷ []) → ⊥
+unfolding last_by
+some_logged frames frame is =
+    let e : None ≡ Some (said_by frame) = ap (last_by (λ (entry : Side × ℕ). entry.0)) is ∙ last_said frames frame in cc
