@@ -1,28 +1,27 @@
 -- What a verifier knows at the place that comes next.
-use Rattle.std.proofs.Common.{◌≡◌, ◌⊎◌, ℕ, inl, inr, Option, Some, None, List, [], ◌∷◌, ◌++◌, length, ◌+◌, ◌-◌, ◌<◌, ◌≤◌, refl, sym, ◌∙◌, ap, subst, arith, append-nil}
+use Rattle.std.proofs.Common.{◌≡◌, ◌⊎◌, ℕ, inl, inr, Some, None, List, [], ◌∷◌, ◌++◌, length, ◌+◌, ◌-◌, ◌≤◌, refl, sym, ◌∙◌, ap, subst, arith, append-nil}
 use Rattle.std.specs.Prelude.{All}
 use Rattle.std.proofs.lemmas.List.Elements.{All-head}
 use Rattle.zk_model.specs.Files.{VerifierFile, IsVerifierFile}
-use Rattle.zk_model.specs.Frames.{Frame, hello, grant, asks, replies, corrections, challenge, sums, openings, verdict, refuse, want, block, out, Allows, AreAsks, AreReplies}
+use Rattle.zk_model.specs.Frames.{Frame, hello, asks, replies, corrections, sums, openings, Allows, AreAsks, AreReplies}
 use Rattle.zk_model.specs.Transcript.{Hello, Grant, TreeAsk, TreeReply}
 use Rattle.zk_model.specs.declared.Expect.{Expect}
 use Rattle.zk_model.specs.declared.Expect.TheVariants as expect
-use Rattle.zk_model.specs.declared.Kind.TheVariants.{Extended}
 use Rattle.zk_model.specs.declared.Side.TheVariants.{Prover, Verifier}
 use Rattle.proof_frames.specs.Frames.{frame_value}
 use Rattle.proof_frames.specs.declared.frame.Frame as coded
 use Rattle.proof_frames.specs.declared.frame.Frame.TheVariants as frames
 use Rattle.session_laws.specs.Rounds.{RepliesAreInRange}
-use Rattle.session_script.specs.Scripts.{Stage, stage_of, side_at, Reached}
+use Rattle.session_script.specs.Scripts.{stage_of, side_at, Reached}
 use Rattle.session_verifier.specs.Serving.{Grants}
 use Rattle.session_claim.specs.Claims.{Claim, HasPlaces, IsGreeting, AreAnswers, AllowsEach, IsExchange}
-use Rattle.session_claim.specs.Script.{first_places, claim_places}
-use Rattle.claim_verifier.specs.Hearing.{Heard, Known, known_of, RoundStage, asking, replying, units_of, exchange_in, IsUnheard, verifier_rules}
+use Rattle.session_claim.specs.Script.{claim_places}
+use Rattle.claim_verifier.specs.Hearing.{Heard, Known, RoundStage, asking, replying, units_of, exchange_in, IsUnheard, verifier_rules}
 use Rattle.zk_model.specs.declared.limits.TheConstants.{MAX_DEALT_UNITS}
 use Rattle.claim_verifier.specs.Rounds.{IsRoundOver, TakesAsks, IsToJudge, round_stage, keys_in}
 use Rattle.claim_verifier.specs.declared.rounds.Rounds.{Rounds}
 use Rattle.claim_verifier.specs.declared.rounds.Rounds.TheVariants.{Asking, Replying}
-use Rattle.claim_verifier.proofs.Due.{coin_is_element, answers_rest, replies_places, HasGrant, AtFirst, AtAsks, AtReplies, AtChallenge, AtAnswers, AtEnd, IsJudgedSo, IsDue, due_at}
+use Rattle.claim_verifier.proofs.Due.{coin_is_element, answers_rest, replies_places, HasGrant, AtFirst, AtAsks, AtReplies, AtAnswers, AtEnd, IsDue, due_at}
 
 first_is : (place other : Expect) (rest others : List Expect) → place ∷ rest ≡ other ∷ others → place ≡ other
 first_is place other rest others is = cc

@@ -1,16 +1,16 @@
 -- What a verifier knows at each place of its session, from the frames that led there.
-use Rattle.std.proofs.Common.{◌≡◌, ◌⊎◌, ℕ, zero, suc, inl, inr, Option, Some, None, List, [], ◌∷◌, ◌++◌, map, flat_map, length, ◌+◌, ◌-◌, ◌<◌, ◌≤◌, refl, sym, ◌∙◌, ap, subst, arith, append_assoc, append-nil}
+use Rattle.std.proofs.Common.{◌≡◌, ◌⊎◌, ℕ, zero, suc, inl, inr, Some, List, [], ◌∷◌, ◌++◌, map, flat_map, length, ◌+◌, ◌-◌, ◌<◌, ◌≤◌, refl, sym, ◌∙◌, ap, subst, arith, append_assoc, append-nil}
 use Rattle.std.specs.Prelude.{All}
 use Rattle.std.specs.List.{range_with_len}
-use Rattle.std.proofs.lemmas.List.{length_push, length-map}
-use Rattle.std.proofs.lemmas.List.Elements.{All-nil, All-push, All-head, All-rest}
+use Rattle.std.proofs.lemmas.List.{length_push}
+use Rattle.std.proofs.lemmas.List.Elements.{All-nil, All-push, All-rest}
 use Rattle.zk_model.specs.Audit.{round_places}
 use Rattle.zk_model.specs.Correlations.{span_keys}
 use Rattle.zk_model.specs.Field.{IsElement, from_word}
 use Rattle.zk_model.specs.Files.{VerifierFile, IsVerifierFile, rounds_of}
 use Rattle.zk_model.specs.Frames.{Frame, hello, grant, asks, replies, corrections, challenge, sums, openings, verdict, refuse, Allows, AreAsks, AreReplies, AreElements}
-use Rattle.zk_model.specs.ServedVerifier.{challenge_coin, round_replies}
-use Rattle.zk_model.specs.Transcript.{Hello, Grant, TreeAsk, TreeReply, ForEachTree, IsTreeAsk, IsTreeReply}
+use Rattle.zk_model.specs.ServedVerifier.{round_replies}
+use Rattle.zk_model.specs.Transcript.{Hello, Grant, TreeAsk, TreeReply, IsTreeAsk, IsTreeReply}
 use Rattle.zk_model.specs.View.{span_of}
 use Rattle.zk_model.specs.declared.Expect.{Expect}
 use Rattle.zk_model.specs.declared.Expect.TheVariants as expect
@@ -21,8 +21,8 @@ use Rattle.session_laws.specs.Rounds.{RepliesAreInRange}
 use Rattle.session_script.specs.Scripts.{after_in, left_after, Stage, stage_of, Fits, Passes, Reached}
 use Rattle.session_verifier.specs.Serving.{Grants}
 use Rattle.session_claim.specs.Claims.{Claim, HasPlaces, IsGreeting, AreAnswers, AllowsEach, IsExchange, claim_needs}
-use Rattle.session_claim.specs.Script.{first_places, rounds_places, claim_places, claim_behind}
-use Rattle.claim_verifier.specs.Hearing.{Heard, Known, known_of, RoundStage, asking, replying, units_of, grant_from, exchange_in, AsksMore, AsksOn, JudgesSo, GrantsUnits, IsUnheard, VerifierPasses, verifier_rules}
+use Rattle.session_claim.specs.Script.{first_places, claim_places, claim_behind}
+use Rattle.claim_verifier.specs.Hearing.{Heard, Known, known_of, asking, replying, units_of, exchange_in, AsksMore, AsksOn, JudgesSo, GrantsUnits, IsUnheard, VerifierPasses, verifier_rules}
 use Rattle.claim_verifier.specs.Rounds.{IsRoundOver}
 
 -- ---- lists

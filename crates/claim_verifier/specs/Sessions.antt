@@ -1,5 +1,5 @@
 -- What a session of a verifier about a claim leaves.
-use Rattle.std.specs.Prelude.{◌≡◌, ◌≤◌, ℕ, Option, Some, List, [], length}
+use Rattle.std.specs.Prelude.{◌≡◌, ◌≤◌, ℕ, Some, List, [], length}
 use Rattle.zk_model.specs.Correlations.{span_keys}
 use Rattle.zk_model.specs.Files.{VerifierFile}
 use Rattle.zk_model.specs.Mac.{Pair, AreKeysOf}
@@ -8,7 +8,6 @@ use Rattle.zk_model.specs.View.{span_of}
 use Rattle.zk_model.specs.declared.Side.TheVariants.{Verifier}
 use Rattle.frame_link.specs.Lines.{LinkSnapshot}
 use Rattle.frame_link.specs.declared.fault.LineFault.TheVariants as line
-use Rattle.session_core.specs.declared.judgement.Judgement.{Judgement}
 use Rattle.session_core.specs.declared.judgement.Judgement.TheVariants.{Accepted}
 use Rattle.session_driver.specs.declared.drive.Outcome.{Outcome}
 use Rattle.session_driver.specs.declared.drive.Outcome.TheVariants as driven
@@ -17,7 +16,7 @@ use Rattle.session_script.specs.declared.fault.EndFault.{EndFault}
 use Rattle.session_verifier.specs.Serving.{Grants}
 use Rattle.session_claim.specs.Claims.{Claim, IsExchange, claim_needs}
 use Rattle.session_claim.specs.Script.{first_places}
-use Rattle.claim_verifier.specs.Hearing.{Heard, Known, nothing_heard, known_of, exchange_in, verifier_rules}
+use Rattle.claim_verifier.specs.Hearing.{Heard, nothing_heard, known_of, exchange_in, verifier_rules}
 use Rattle.claim_verifier.specs.declared.fault.VoiceFault.{VoiceFault}
 use Rattle.claim_verifier.specs.declared.verify.SessionEnd.{SessionEnd}
 use Rattle.claim_verifier.specs.declared.verify.SessionEnd.TheVariants.{Judged, Refused, Cut}

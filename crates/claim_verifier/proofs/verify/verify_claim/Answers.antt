@@ -1,10 +1,10 @@
-use Rattle.std.proofs.Common.{◌≡◌, ◌∙◌, List, [], None, Some, map, inl, inr, refl, sym, ap, subst}
+use Rattle.std.proofs.Common.{◌≡◌, ◌∙◌, [], None, Some, map, inr, refl, sym, ap, subst}
 use Rattle.zk_model.specs.declared.Side.TheVariants.{Verifier}
 use Rattle.proof_frames.specs.Frames.{frame_value}
 use Rattle.round_fan.specs.Fans.{lists_of}
 use Rattle.session_driver.specs.declared.drive.Outcome.TheVariants.{Done}
 use Rattle.frame_link.specs.Lines.{snapshot_of}
-use Rattle.session_script.specs.Scripts.{EndsAccepted, Stage, stage_of, Reached, ScriptLeaves}
+use Rattle.session_script.specs.Scripts.{EndsAccepted, Stage, stage_of, ScriptLeaves}
 use Rattle.session_verifier.specs.Serving.{Grants, grants_of}
 use Rattle.session_claim.specs.Script.{first_places, claim_behind}
 use Rattle.claim_verifier.specs.Hearing.{Heard, Known, known_of, nothing_heard, asking, IsUnheard, verifier_rules}

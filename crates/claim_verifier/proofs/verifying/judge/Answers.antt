@@ -1,4 +1,4 @@
-use Rattle.std.proofs.Common.{◌≡◌, ◌≤◌, ◌*◌, ◌∙◌, ℕ, length, sym, ap, subst}
+use Rattle.std.proofs.Common.{◌≡◌, ◌≤◌, ℕ, length, sym, ap, subst}
 use Rattle.std.specs.Prelude.{List, Result, Ok, Err, OnOk}
 use Rattle.zk_model.specs.Files.{correlations_per_unit}
 use Rattle.zk_model.specs.Transcript.{Grant}
