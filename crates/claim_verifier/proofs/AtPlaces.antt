@@ -14,14 +14,25 @@ use Rattle.proof_frames.specs.declared.frame.Frame.TheVariants as frames
 use Rattle.session_laws.specs.Rounds.{RepliesAreInRange}
 use Rattle.session_script.specs.Scripts.{stage_of, side_at, Reached}
 use Rattle.session_verifier.specs.Serving.{Grants}
-use Rattle.session_claim.specs.Claims.{Claim, HasPlaces, IsGreeting, AreAnswers, AllowsEach, IsExchange}
+use Rattle.session_claim.specs.Claims.{Claim, HasPlaces, IsGreeting, IsVerdictPlace, AreAnswers, AllowsEach, IsExchange}
 use Rattle.session_claim.specs.Script.{claim_places}
 use Rattle.claim_verifier.specs.Hearing.{Heard, Known, RoundStage, asking, replying, units_of, exchange_in, IsUnheard, verifier_rules}
 use Rattle.zk_model.specs.declared.limits.TheConstants.{MAX_DEALT_UNITS}
 use Rattle.claim_verifier.specs.Rounds.{IsRoundOver, TakesAsks, IsToJudge, round_stage, keys_in}
 use Rattle.claim_verifier.specs.declared.rounds.Rounds.{Rounds}
 use Rattle.claim_verifier.specs.declared.rounds.Rounds.TheVariants.{Asking, Replying}
-use Rattle.claim_verifier.proofs.Due.{coin_is_element, answers_rest, replies_places, HasGrant, AtFirst, AtAsks, AtReplies, AtAnswers, AtEnd, IsDue, due_at}
+use Rattle.claim_verifier.proofs.Due.{coin_is_element, answers_rest, verdict_said, replies_places, HasGrant, AtFirst, AtAsks, AtReplies, AtAnswers, AtEnd, IsDue, due_at}
+
+-- who says a verdict, and where it stands
+verdict_side : (place : Expect) → IsVerdictPlace place → side_at place ≡ Verifier
+verdict_side expect.Verdict is = refl
+verdict_side expect.PolyVerdict is = refl
+verdict_side place is = absurd is
+
+verdict_no : (place : Expect) → IsVerdictPlace place → (place ≡ expect.Verdict → ⊥) → (place ≡ expect.PolyVerdict → ⊥) → ⊥
+verdict_no expect.Verdict is no no_poly = no refl
+verdict_no expect.PolyVerdict is no no_poly = no_poly refl
+verdict_no place is no no_poly = is
 
 first_is : (place other : Expect) (rest others : List Expect) → place ∷ rest ≡ other ∷ others → place ≡ other
 first_is place other rest others is = cc
@@ -52,10 +63,10 @@ module _ {R : Type 0} (grants : Grants R) (claim : Claim) (file : VerifierFile) 
   IsChallenge = (given : Grant) × HasGrant grants claim file section_length known.heard given × (place ≡ expect.Challenge)
 
   abbrev IsAnswer : Type 0
-  IsAnswer = (count : ℕ) × ((place ≡ expect.Sums count) ⊎ (place ≡ expect.Openings count))
+  IsAnswer = (count : ℕ) × ((place ≡ expect.Sums count) ⊎ (place ≡ expect.Openings count) ⊎ (place ≡ expect.PolySums count))
 
   abbrev IsVerdict : Type 0
-  IsVerdict = (given : Grant) × IsWhole given × (place ≡ expect.Verdict)
+  IsVerdict = (given : Grant) × IsWhole given × (place ≡ claim.verdict)
 
   abbrev Which : Type 0
   Which = IsFirst ⊎ IsAsk ⊎ IsReply ⊎ IsCorrections ⊎ IsChallenge ⊎ IsAnswer ⊎ IsVerdict
@@ -84,12 +95,14 @@ module _ {R : Type 0} (grants : Grants R) (claim : Claim) (file : VerifierFile) 
         answers = subst (λ l. AllowsEach l known.heard.answers) (sym (due.all ∙ ap (λ l. due.done ++ l) is ∙ append-nil due.done)) due.each;
       },
     ),
-    first_is place expect.Verdict rest [] (due.left ∙ ap (λ l. l ++ expect.Verdict ∷ []) is),
+    first_is place claim.verdict rest [] (due.left ∙ ap (λ l. l ++ claim.verdict ∷ []) is),
   ))))))
   by_answers given due (expect.Sums count ∷ more) is are =
-      inr (inr (inr (inr (inr (inl (count, inl (first_is place (expect.Sums count) rest _ (due.left ∙ ap (λ l. l ++ expect.Verdict ∷ []) is))))))))
+      inr (inr (inr (inr (inr (inl (count, inl (first_is place (expect.Sums count) rest _ (due.left ∙ ap (λ l. l ++ claim.verdict ∷ []) is))))))))
   by_answers given due (expect.Openings count ∷ more) is are =
-      inr (inr (inr (inr (inr (inl (count, inr (first_is place (expect.Openings count) rest _ (due.left ∙ ap (λ l. l ++ expect.Verdict ∷ []) is))))))))
+      inr (inr (inr (inr (inr (inl (count, inr (inl (first_is place (expect.Openings count) rest _ (due.left ∙ ap (λ l. l ++ claim.verdict ∷ []) is)))))))))
+  by_answers given due (expect.PolySums count ∷ more) is are =
+      inr (inr (inr (inr (inr (inl (count, inr (inr (first_is place (expect.PolySums count) rest _ (due.left ∙ ap (λ l. l ++ claim.verdict ∷ []) is)))))))))
   by_answers given due (other ∷ more) is are = absurd are
 
   which : Which
@@ -132,8 +145,9 @@ module _ {R : Type 0} (grants : Grants R) (claim : Claim) (file : VerifierFile) 
       by (inr (inr (inr (inl is)))) = let no = (at _ is).1 in cc
       by (inr (inr (inr (inr (inl (given, has, is)))))) = let no = (at _ is).1 in cc
       by (inr (inr (inr (inr (inr (inl (count, inl is))))))) = let no = (at _ is).1 in cc
-      by (inr (inr (inr (inr (inr (inl (count, inr is))))))) = let no = (at _ is).1 in cc
-      by (inr (inr (inr (inr (inr (inr (given, whole, is))))))) = let no = (at _ is).2 in cc
+      by (inr (inr (inr (inr (inr (inl (count, inr (inl is)))))))) = let no = (at _ is).1 in cc
+      by (inr (inr (inr (inr (inr (inl (count, inr (inr is)))))))) = let no = (at _ is).1 in cc
+      by (inr (inr (inr (inr (inr (inr (given, whole, is))))))) = let no = (verdict_said claim.verdict (hello said) places.verdict (at _ is)).2 in cc
 
   -- asks stand at theirs
   pub asks_at : (said : List TreeAsk) → Allows place (asks said) → TakesAsks file known.heard.given known.heard.round said
@@ -172,14 +186,15 @@ module _ {R : Type 0} (grants : Grants R) (claim : Claim) (file : VerifierFile) 
       by (inr (inr (inr (inl is)))) = let no = (at _ is).1 in cc
       by (inr (inr (inr (inr (inl (given, has, is)))))) = let no = (at _ is).1 in cc
       by (inr (inr (inr (inr (inr (inl (count, inl is))))))) = let no = (at _ is).1 in cc
-      by (inr (inr (inr (inr (inr (inl (count, inr is))))))) = let no = (at _ is).1 in cc
-      by (inr (inr (inr (inr (inr (inr (given, whole, is))))))) = let no = (at _ is).2 in cc
+      by (inr (inr (inr (inr (inr (inl (count, inr (inl is)))))))) = let no = (at _ is).1 in cc
+      by (inr (inr (inr (inr (inr (inl (count, inr (inr is)))))))) = let no = (at _ is).1 in cc
+      by (inr (inr (inr (inr (inr (inr (given, whole, is))))))) = let no = (verdict_said claim.verdict (asks said) places.verdict (at _ is)).2 in cc
 
   -- what the prover says is a hello, asks, corrections, sums or openings
   pub heard_is : (frame : Frame) → side_at place ≡ Prover → Allows place frame → ((said : Hello) → frame ≡ hello said → ⊥)
       → ((said : List TreeAsk) → frame ≡ asks said → ⊥) → ((elements : List ℕ) → frame ≡ corrections elements → ⊥)
-      → ((both : List (ℕ × ℕ)) → frame ≡ sums both → ⊥) → ((macs : List ℕ) → frame ≡ openings macs → ⊥) → ⊥
-  heard_is frame prover allowed no_hello no_asks no_corrections no_sums no_openings = by which
+      → ((both : List (ℕ × ℕ)) → frame ≡ sums both → ⊥) → ((macs : List ℕ) → frame ≡ openings macs → ⊥) → ((elements : List ℕ) → frame ≡ poly_sums elements → ⊥) → ⊥
+  heard_is frame prover allowed no_hello no_asks no_corrections no_sums no_openings no_poly_sums = by which
     where
       at : (other : Expect) → place ≡ other → Allows other frame
       at other is = subst (λ p. Allows p frame) is allowed
@@ -200,20 +215,22 @@ module _ {R : Type 0} (grants : Grants R) (claim : Claim) (file : VerifierFile) 
       by (inr (inr (inr (inl is)))) = let here = at _ is in no_corrections here.0 here.1
       by (inr (inr (inr (inr (inl (given, has, is)))))) = side_no expect.Challenge is refl
       by (inr (inr (inr (inr (inr (inl (count, inl is))))))) = let here = at _ is in no_sums here.0 here.1
-      by (inr (inr (inr (inr (inr (inl (count, inr is))))))) = let here = at _ is in no_openings here.0 here.1
-      by (inr (inr (inr (inr (inr (inr (given, whole, is))))))) = side_no expect.Verdict is refl
+      by (inr (inr (inr (inr (inr (inl (count, inr (inl is)))))))) = let here = at _ is in no_openings here.0 here.1
+      by (inr (inr (inr (inr (inr (inl (count, inr (inr is)))))))) = let here = at _ is in no_poly_sums here.0 here.1
+      by (inr (inr (inr (inr (inr (inr (given, whole, is))))))) = side_no claim.verdict is (verdict_side claim.verdict places.verdict)
 
   -- as code has it
   pub heard_coded : (frame : coded.Frame) → side_at place ≡ Prover → Allows place (frame_value frame) → ((said : _) → frame ≡ frames.Hello said → ⊥)
       → ((said : _) → frame ≡ frames.ExtendAsk said → ⊥) → ((elements : _) → frame ≡ frames.Corrections elements → ⊥)
-      → ((both : _) → frame ≡ frames.Sums both → ⊥) → ((macs : _) → frame ≡ frames.Openings macs → ⊥) → ⊥
-  heard_coded (frames.Hello said) prover allowed no_hello no_asks no_corrections no_sums no_openings = no_hello said refl
-  heard_coded (frames.ExtendAsk said) prover allowed no_hello no_asks no_corrections no_sums no_openings = no_asks said refl
-  heard_coded (frames.Corrections elements) prover allowed no_hello no_asks no_corrections no_sums no_openings = no_corrections elements refl
-  heard_coded (frames.Sums both) prover allowed no_hello no_asks no_corrections no_sums no_openings = no_sums both refl
-  heard_coded (frames.Openings macs) prover allowed no_hello no_asks no_corrections no_sums no_openings = no_openings macs refl
-  heard_coded frame prover allowed no_hello no_asks no_corrections no_sums no_openings =
-      heard_is (frame_value frame) prover allowed (λ said is. cc) (λ said is. cc) (λ elements is. cc) (λ both is. cc) (λ macs is. cc)
+      → ((both : _) → frame ≡ frames.Sums both → ⊥) → ((macs : _) → frame ≡ frames.Openings macs → ⊥) → ((sums : _) → frame ≡ frames.PolySums sums → ⊥) → ⊥
+  heard_coded (frames.Hello said) prover allowed no_hello no_asks no_corrections no_sums no_openings no_poly_sums = no_hello said refl
+  heard_coded (frames.ExtendAsk said) prover allowed no_hello no_asks no_corrections no_sums no_openings no_poly_sums = no_asks said refl
+  heard_coded (frames.Corrections elements) prover allowed no_hello no_asks no_corrections no_sums no_openings no_poly_sums = no_corrections elements refl
+  heard_coded (frames.Sums both) prover allowed no_hello no_asks no_corrections no_sums no_openings no_poly_sums = no_sums both refl
+  heard_coded (frames.Openings macs) prover allowed no_hello no_asks no_corrections no_sums no_openings no_poly_sums = no_openings macs refl
+  heard_coded (frames.PolySums elements) prover allowed no_hello no_asks no_corrections no_sums no_openings no_poly_sums = no_poly_sums elements refl
+  heard_coded frame prover allowed no_hello no_asks no_corrections no_sums no_openings no_poly_sums =
+      heard_is (frame_value frame) prover allowed (λ said is. cc) (λ said is. cc) (λ elements is. cc) (λ both is. cc) (λ macs is. cc) (λ elements is. cc)
 
   -- ---- of its own
 
@@ -230,8 +247,9 @@ module _ {R : Type 0} (grants : Grants R) (claim : Claim) (file : VerifierFile) 
       by (inr (inr (inr (inl is)))) = let no = other_no _ is in cc
       by (inr (inr (inr (inr (inl (given, has, is)))))) = let no = other_no _ is in cc
       by (inr (inr (inr (inr (inr (inl (count, inl is))))))) = let no = other_no _ is in cc
-      by (inr (inr (inr (inr (inr (inl (count, inr is))))))) = let no = other_no _ is in cc
-      by (inr (inr (inr (inr (inr (inr (given, whole, is))))))) = let no = other_no _ is in cc
+      by (inr (inr (inr (inr (inr (inl (count, inr (inl is)))))))) = let no = other_no _ is in cc
+      by (inr (inr (inr (inr (inr (inl (count, inr (inr is)))))))) = let no = other_no _ is in cc
+      by (inr (inr (inr (inr (inr (inr (given, whole, is))))))) = absurd (subst IsVerdictPlace (sym (other_no _ is)) places.verdict)
 
   pub reply_at : (height trees left : ℕ) → place ≡ expect.Reply height trees left
       → (said : List TreeReply) × (due : List (List TreeReply)) × (known.heard.round ≡ replying (said ∷ due)) × Allows place (replies said)
@@ -254,8 +272,9 @@ module _ {R : Type 0} (grants : Grants R) (claim : Claim) (file : VerifierFile) 
       by (inr (inr (inr (inl is)))) = let no = other_no _ is in cc
       by (inr (inr (inr (inr (inl (given, has, is)))))) = let no = other_no _ is in cc
       by (inr (inr (inr (inr (inr (inl (count, inl is))))))) = let no = other_no _ is in cc
-      by (inr (inr (inr (inr (inr (inl (count, inr is))))))) = let no = other_no _ is in cc
-      by (inr (inr (inr (inr (inr (inr (given, whole, is))))))) = let no = other_no _ is in cc
+      by (inr (inr (inr (inr (inr (inl (count, inr (inl is)))))))) = let no = other_no _ is in cc
+      by (inr (inr (inr (inr (inr (inl (count, inr (inr is)))))))) = let no = other_no _ is in cc
+      by (inr (inr (inr (inr (inr (inr (given, whole, is))))))) = absurd (subst IsVerdictPlace (sym (other_no _ is)) places.verdict)
 
   pub challenge_at : place ≡ expect.Challenge → (given : Grant) × HasGrant grants claim file section_length known.heard given
   challenge_at challenging = by which
@@ -276,40 +295,45 @@ module _ {R : Type 0} (grants : Grants R) (claim : Claim) (file : VerifierFile) 
       by (inr (inr (inr (inl is)))) = let no = other_no _ is in cc
       by (inr (inr (inr (inr (inl (given, has, is)))))) = (given, has)
       by (inr (inr (inr (inr (inr (inl (count, inl is))))))) = let no = other_no _ is in cc
-      by (inr (inr (inr (inr (inr (inl (count, inr is))))))) = let no = other_no _ is in cc
-      by (inr (inr (inr (inr (inr (inr (given, whole, is))))))) = let no = other_no _ is in cc
+      by (inr (inr (inr (inr (inr (inl (count, inr (inl is)))))))) = let no = other_no _ is in cc
+      by (inr (inr (inr (inr (inr (inl (count, inr (inr is)))))))) = let no = other_no _ is in cc
+      by (inr (inr (inr (inr (inr (inr (given, whole, is))))))) = absurd (subst IsVerdictPlace (sym (other_no _ is)) places.verdict)
 
-  pub verdict_at : place ≡ expect.Verdict
+  pub verdict_at : IsVerdictPlace place
       → (given : Grant) × (known.heard.given ≡ Some given) × IsToJudge claim file section_length given known.heard.round (exchange_in file given known.heard)
+      × (place ≡ claim.verdict)
   verdict_at judging = by which
     where
-      other_no : (other : Expect) → place ≡ other → expect.Verdict ≡ other
-      other_no other is = sym judging ∙ is
+      other_no : (other : Expect) → place ≡ other → IsVerdictPlace other
+      other_no other is = subst IsVerdictPlace is judging
 
-      first_no : (other : Expect) → IsGreeting other → expect.Verdict ≡ other → ⊥
-      first_no expect.Hello is same = cc
-      first_no expect.ShortHello is same = cc
-      first_no other is same = is
+      first_no : (other : Expect) → IsGreeting other → IsVerdictPlace other → ⊥
+      first_no expect.Hello is judges = judges
+      first_no expect.ShortHello is judges = judges
+      first_no other is judges = is
 
       by : Which → (given : Grant) × (known.heard.given ≡ Some given) × IsToJudge claim file section_length given known.heard.round (exchange_in file given known.heard)
+          × (place ≡ claim.verdict)
       by (inl (inl is, unheard)) = absurd (first_no claim.greeting places.greeting (other_no _ is))
-      by (inl (inr is, unheard)) = let no = other_no _ is in cc
-      by (inr (inl (given, left, due, is))) = let no = other_no _ is in cc
-      by (inr (inr (inl (said, due, left, round, are, is)))) = let no = other_no _ is in cc
-      by (inr (inr (inr (inl is)))) = let no = other_no _ is in cc
-      by (inr (inr (inr (inr (inl (given, has, is)))))) = let no = other_no _ is in cc
-      by (inr (inr (inr (inr (inr (inl (count, inl is))))))) = let no = other_no _ is in cc
-      by (inr (inr (inr (inr (inr (inl (count, inr is))))))) = let no = other_no _ is in cc
+      by (inl (inr is, unheard)) = absurd (other_no _ is)
+      by (inr (inl (given, left, due, is))) = absurd (other_no _ is)
+      by (inr (inr (inl (said, due, left, round, are, is)))) = absurd (other_no _ is)
+      by (inr (inr (inr (inl is)))) = absurd (other_no _ is)
+      by (inr (inr (inr (inr (inl (given, has, is)))))) = absurd (other_no _ is)
+      by (inr (inr (inr (inr (inr (inl (count, inl is))))))) = absurd (other_no _ is)
+      by (inr (inr (inr (inr (inr (inl (count, inr (inl is)))))))) = absurd (other_no _ is)
+      by (inr (inr (inr (inr (inr (inl (count, inr (inr is)))))))) = absurd (other_no _ is)
       by (inr (inr (inr (inr (inr (inr (given, whole, is))))))) = (
         given,
         whole.0.granted,
         record { within = whole.0.within; count = whole.0.count; section = whole.0.section; over = whole.1; exchange_is = whole.2 },
+        is,
       )
 
   -- what it says is a grant, a reply, a challenge or a verdict
   pub said_is : side_at place ≡ Verifier → (place ≡ expect.Grant → ⊥) → ((height trees left : ℕ) → place ≡ expect.Reply height trees left → ⊥)
-      → (place ≡ expect.Challenge → ⊥) → (place ≡ expect.Verdict → ⊥) → ⊥
-  said_is verifier no_grant no_reply no_challenge no_verdict = by which
+      → (place ≡ expect.Challenge → ⊥) → (place ≡ expect.Verdict → ⊥) → (place ≡ expect.PolyVerdict → ⊥) → ⊥
+  said_is verifier no_grant no_reply no_challenge no_verdict no_poly_verdict = by which
     where
       side_no : (other : Expect) → place ≡ other → side_at other ≡ Prover → ⊥
       side_no other is side = let e : Verifier ≡ Prover = sym verifier ∙ ap side_at is ∙ side in cc
@@ -327,8 +351,9 @@ module _ {R : Type 0} (grants : Grants R) (claim : Claim) (file : VerifierFile) 
       by (inr (inr (inr (inl is)))) = side_no _ is refl
       by (inr (inr (inr (inr (inl (given, has, is)))))) = no_challenge is
       by (inr (inr (inr (inr (inr (inl (count, inl is))))))) = side_no _ is refl
-      by (inr (inr (inr (inr (inr (inl (count, inr is))))))) = side_no _ is refl
-      by (inr (inr (inr (inr (inr (inr (given, whole, is))))))) = no_verdict is
+      by (inr (inr (inr (inr (inr (inl (count, inr (inl is)))))))) = side_no _ is refl
+      by (inr (inr (inr (inr (inr (inl (count, inr (inr is)))))))) = side_no _ is refl
+      by (inr (inr (inr (inr (inr (inr (given, whole, is))))))) = verdict_no place (subst IsVerdictPlace (sym is) places.verdict) no_verdict no_poly_verdict
 
 -- a session of which nothing is left was judged
 pub judged_at : {R : Type 0} (grants : Grants R) (claim : Claim) (file : VerifierFile) (section_length : ℕ) → HasPlaces claim → IsVerifierFile file → RepliesAreInRange

@@ -8,7 +8,7 @@ use Rattle.zk_model.specs.Audit.{round_places}
 use Rattle.zk_model.specs.Correlations.{span_keys}
 use Rattle.zk_model.specs.Field.{IsElement, from_word}
 use Rattle.zk_model.specs.Files.{VerifierFile, IsVerifierFile, rounds_of}
-use Rattle.zk_model.specs.Frames.{Frame, hello, grant, asks, replies, corrections, challenge, sums, openings, verdict, refuse, Allows, AreAsks, AreReplies, AreElements}
+use Rattle.zk_model.specs.Frames.{Frame, hello, grant, asks, replies, corrections, challenge, sums, openings, poly_sums, verdict, refuse, Allows, AreAsks, AreReplies, AreElements}
 use Rattle.zk_model.specs.ServedVerifier.{round_replies}
 use Rattle.zk_model.specs.Transcript.{Hello, Grant, TreeAsk, TreeReply, IsTreeAsk, IsTreeReply}
 use Rattle.zk_model.specs.View.{span_of}
@@ -20,7 +20,7 @@ use Rattle.session_core.specs.declared.judgement.Judgement.{Judgement}
 use Rattle.session_laws.specs.Rounds.{RepliesAreInRange}
 use Rattle.session_script.specs.Scripts.{after_in, left_after, Stage, stage_of, Fits, Passes, Reached}
 use Rattle.session_verifier.specs.Serving.{Grants}
-use Rattle.session_claim.specs.Claims.{Claim, HasPlaces, IsGreeting, AreAnswers, AllowsEach, IsExchange, claim_needs}
+use Rattle.session_claim.specs.Claims.{Claim, HasPlaces, IsGreeting, IsVerdictPlace, AreAnswers, AllowsEach, IsExchange, claim_needs}
 use Rattle.session_claim.specs.Script.{first_places, claim_places, claim_behind}
 use Rattle.claim_verifier.specs.Hearing.{Heard, Known, known_of, asking, replying, units_of, exchange_in, AsksMore, AsksOn, JudgesSo, GrantsUnits, IsUnheard, VerifierPasses, verifier_rules}
 use Rattle.claim_verifier.specs.Rounds.{IsRoundOver}
@@ -38,6 +38,7 @@ pub answers_rest : (done rest : List Expect) → AreAnswers (done ++ rest) → A
 answers_rest [] rest are = are
 answers_rest (expect.Sums sections ∷ done) rest are = answers_rest done rest are
 answers_rest (expect.Openings count ∷ done) rest are = answers_rest done rest are
+answers_rest (expect.PolySums count ∷ done) rest are = answers_rest done rest are
 answers_rest (place ∷ done) rest are = absurd are
 
 split : (place other : Expect) (places others : List Expect) (all : List Expect) → all ≡ place ∷ places → all ≡ other ∷ others → (place ≡ other) × (places ≡ others)
@@ -58,6 +59,12 @@ pub greeted : (place : Expect) (frame : Frame) → IsGreeting place → Allows p
 greeted expect.Hello frame is allowed = (allowed.0, allowed.1)
 greeted expect.ShortHello frame is allowed = (allowed.0, allowed.1)
 greeted place frame is allowed = absurd is
+
+-- and what a verdict's place allows is one
+pub verdict_said : (place : Expect) (frame : Frame) → IsVerdictPlace place → Allows place frame → (code : ℕ) × (number : ℕ) × (frame ≡ verdict code number)
+verdict_said expect.Verdict frame is allowed = (allowed.0, allowed.1, allowed.2)
+verdict_said expect.PolyVerdict frame is allowed = (allowed.0, allowed.1, allowed.2)
+verdict_said place frame is allowed = absurd is
 
 at_least_one : (n : ℕ) → 1 ≤ n → (more : ℕ) × (n ≡ suc more)
 at_least_one zero some = absurd (omega (arith, some))
@@ -122,7 +129,7 @@ module _ {R : Type 0} (grants : Grants R) (claim : Claim) (file : VerifierFile) 
   pub record AtChallenge (given : Grant) (stage : Stage (Known R)) : Type 0 where
     pub has : HasGrant stage.known.heard given
     pub over : IsRoundOver file.params.kind stage.known.heard.round
-    pub left : stage.left ≡ expect.Challenge ∷ claim.answers given.section_length ++ expect.Verdict ∷ []
+    pub left : stage.left ≡ expect.Challenge ∷ claim.answers given.section_length ++ claim.verdict ∷ []
     pub corrections : AreElements claim.givens stage.known.heard.corrections
     pub none : stage.known.heard.answers ≡ []
 
@@ -132,7 +139,7 @@ module _ {R : Type 0} (grants : Grants R) (claim : Claim) (file : VerifierFile) 
     pub over : IsRoundOver file.params.kind stage.known.heard.round
     pub done : List Expect
     pub rest : List Expect
-    pub left : stage.left ≡ rest ++ expect.Verdict ∷ []
+    pub left : stage.left ≡ rest ++ claim.verdict ∷ []
     pub all : claim.answers given.section_length ≡ done ++ rest
     pub corrections : AreElements claim.givens stage.known.heard.corrections
     pub each : AllowsEach done stage.known.heard.answers
@@ -358,14 +365,14 @@ module _ {R : Type 0} (grants : Grants R) (claim : Claim) (file : VerifierFile) 
       corrected : (given : Grant) → HasGrant old.known.heard given → IsRoundOver file.params.kind old.known.heard.round
           → old.left ≡ claim_places claim given.section_length → old.known.heard.answers ≡ [] → IsDue new
       corrected given has over left none =
-          let here = at (expect.Corrections claim.givens) (expect.Challenge ∷ claim.answers given.section_length ++ expect.Verdict ∷ []) left in
+          let here = at (expect.Corrections claim.givens) (expect.Challenge ∷ claim.answers given.section_length ++ claim.verdict ∷ []) left in
           let on = (passes_as (corrections here.0.0) here.0.1).0 in
           inr (inl (
             given,
             inr (inr (inr (inl (record {
               has = has_on given has (ap (λ (h : Heard). h.given) on);
               over = subst (IsRoundOver file.params.kind) (sym (ap (λ (h : Heard). h.round) on)) over;
-              left = left_as (corrections here.0.0) (expect.Challenge ∷ claim.answers given.section_length ++ expect.Verdict ∷ []) here.0.1 here.1;
+              left = left_as (corrections here.0.0) (expect.Challenge ∷ claim.answers given.section_length ++ claim.verdict ∷ []) here.0.1 here.1;
               corrections = subst (λ (h : Heard). AreElements claim.givens h.corrections) (sym on) here.0.2;
               none = ap (λ (h : Heard). h.answers) on ∙ none;
             })))),
@@ -409,7 +416,7 @@ module _ {R : Type 0} (grants : Grants R) (claim : Claim) (file : VerifierFile) 
 
       challenge_next : (given : Grant) (due : AtChallenge given old) → IsDue new
       challenge_next given due =
-          let here = at expect.Challenge (claim.answers given.section_length ++ expect.Verdict ∷ []) due.left in
+          let here = at expect.Challenge (claim.answers given.section_length ++ claim.verdict ∷ []) due.left in
           let on = (passes_as (challenge here.0.0) here.0.1).0.3 in
           inr (inl (
             given,
@@ -418,7 +425,7 @@ module _ {R : Type 0} (grants : Grants R) (claim : Claim) (file : VerifierFile) 
               over = subst (IsRoundOver file.params.kind) (sym (ap (λ (h : Heard). h.round) on)) due.over;
               done = [];
               rest = claim.answers given.section_length;
-              left = left_as (challenge here.0.0) (claim.answers given.section_length ++ expect.Verdict ∷ []) here.0.1 here.1;
+              left = left_as (challenge here.0.0) (claim.answers given.section_length ++ claim.verdict ∷ []) here.0.1 here.1;
               all = refl;
               corrections = subst (λ (h : Heard). AreElements claim.givens h.corrections) (sym on) due.corrections;
               each = subst (AllowsEach []) (sym (ap (λ (h : Heard). h.answers) on ∙ due.none)) tt;
@@ -427,7 +434,7 @@ module _ {R : Type 0} (grants : Grants R) (claim : Claim) (file : VerifierFile) 
 
       -- an answer more
       answered : (given : Grant) (due : AtAnswers given old) (place : Expect) (rest : List Expect) (other : Frame) → due.rest ≡ place ∷ rest → Allows place other
-          → new.known.heard ≡ record old.known.heard { answers = old.known.heard.answers ++ other ∷ [] } → new.left ≡ rest ++ expect.Verdict ∷ [] → IsDue new
+          → new.known.heard ≡ record old.known.heard { answers = old.known.heard.answers ++ other ∷ [] } → new.left ≡ rest ++ claim.verdict ∷ [] → IsDue new
       answered given due place rest other is allowed on left =
           inr (inl (
             given,
@@ -446,7 +453,7 @@ module _ {R : Type 0} (grants : Grants R) (claim : Claim) (file : VerifierFile) 
 
       verdict_next : (given : Grant) (due : AtAnswers given old) → due.rest ≡ [] → IsDue new
       verdict_next given due is = inr (inr (record {
-        left = left_as (verdict here.0.0 here.0.1) [] here.0.2 here.1;
+        left = left_as (verdict said.0 said.1) [] said.2 here.1;
         given = given;
         judgement = on.judgement;
         judged = record {
@@ -463,11 +470,14 @@ module _ {R : Type 0} (grants : Grants R) (claim : Claim) (file : VerifierFile) 
         };
       }))
         where
-          here : Allows expect.Verdict frame × (new.left ≡ left_after (claim_behind file.params claim) [] (after_in frame))
-          here = at expect.Verdict [] (due.left ∙ ap (λ l. l ++ expect.Verdict ∷ []) is)
+          here : Allows claim.verdict frame × (new.left ≡ left_after (claim_behind file.params claim) [] (after_in frame))
+          here = at claim.verdict [] (due.left ∙ ap (λ l. l ++ claim.verdict ∷ []) is)
 
-          on : JudgesSo claim file old.known.heard here.0.0 here.0.1 new.known.heard
-          on = (passes_as (verdict here.0.0 here.0.1) here.0.2).0
+          said : (code : ℕ) × (number : ℕ) × (frame ≡ verdict code number)
+          said = verdict_said claim.verdict frame places.verdict here.0
+
+          on : JudgesSo claim file old.known.heard said.0 said.1 new.known.heard
+          on = (passes_as (verdict said.0 said.1) said.2).0
 
           given_is : on.given ≡ given
           given_is = let e : Some on.given ≡ Some given = sym on.granted ∙ due.has.granted in cc
@@ -475,13 +485,17 @@ module _ {R : Type 0} (grants : Grants R) (claim : Claim) (file : VerifierFile) 
       answers_next : (given : Grant) (due : AtAnswers given old) (rest : List Expect) → due.rest ≡ rest → AreAnswers rest → IsDue new
       answers_next given due [] is are = verdict_next given due is
       answers_next given due (expect.Sums count ∷ rest) is are =
-          let here = at (expect.Sums count) (rest ++ expect.Verdict ∷ []) (due.left ∙ ap (λ l. l ++ expect.Verdict ∷ []) is) in
+          let here = at (expect.Sums count) (rest ++ claim.verdict ∷ []) (due.left ∙ ap (λ l. l ++ claim.verdict ∷ []) is) in
           answered given due (expect.Sums count) rest (sums here.0.0) is (subst (Allows (expect.Sums count)) here.0.1 here.0)
-          (passes_as (sums here.0.0) here.0.1).0 (left_as (sums here.0.0) (rest ++ expect.Verdict ∷ []) here.0.1 here.1)
+          (passes_as (sums here.0.0) here.0.1).0 (left_as (sums here.0.0) (rest ++ claim.verdict ∷ []) here.0.1 here.1)
       answers_next given due (expect.Openings count ∷ rest) is are =
-          let here = at (expect.Openings count) (rest ++ expect.Verdict ∷ []) (due.left ∙ ap (λ l. l ++ expect.Verdict ∷ []) is) in
+          let here = at (expect.Openings count) (rest ++ claim.verdict ∷ []) (due.left ∙ ap (λ l. l ++ claim.verdict ∷ []) is) in
           answered given due (expect.Openings count) rest (openings here.0.0) is (subst (Allows (expect.Openings count)) here.0.1 here.0)
-          (passes_as (openings here.0.0) here.0.1).0 (left_as (openings here.0.0) (rest ++ expect.Verdict ∷ []) here.0.1 here.1)
+          (passes_as (openings here.0.0) here.0.1).0 (left_as (openings here.0.0) (rest ++ claim.verdict ∷ []) here.0.1 here.1)
+      answers_next given due (expect.PolySums count ∷ rest) is are =
+          let here = at (expect.PolySums count) (rest ++ claim.verdict ∷ []) (due.left ∙ ap (λ l. l ++ claim.verdict ∷ []) is) in
+          answered given due (expect.PolySums count) rest (poly_sums here.0.0) is (subst (Allows (expect.PolySums count)) here.0.1 here.0)
+          (passes_as (poly_sums here.0.0) here.0.1).0 (left_as (poly_sums here.0.0) (rest ++ claim.verdict ∷ []) here.0.1 here.1)
       answers_next given due (place ∷ rest) is are = absurd are
 
       over_no : AtEnd old → IsDue new

@@ -2,7 +2,7 @@
 use Rattle.std.specs.Prelude.{◌≡◌, ◌⊎◌, ℕ, ◌+◌, ◌<◌, ◌≤◌, Option, Some, None, List, [], ◌∷◌, ◌++◌, length, Ok, Err}
 use Rattle.zk_model.specs.Correlations.{span_keys}
 use Rattle.zk_model.specs.Files.{VerifierFile}
-use Rattle.zk_model.specs.Frames.{Frame, hello, grant, asks, replies, corrections, challenge, sums, openings, verdict, refuse, want, block, out}
+use Rattle.zk_model.specs.Frames.{Frame, hello, grant, asks, replies, corrections, challenge, sums, openings, verdict, refuse, poly_sums, want, block, out}
 use Rattle.zk_model.specs.Frames.{hello as greeting}
 use Rattle.zk_model.specs.ServedVerifier.{challenge_coin, round_replies}
 use Rattle.zk_model.specs.Transcript.{Hello, Grant, TreeAsk, TreeReply, units_for}
@@ -117,6 +117,7 @@ Hears claim file old (openings macs) new = new ≡ record old { answers = old.an
 Hears claim file old (verdict code number) new = JudgesSo claim file old code number new
 Hears claim file old (grant given) new = ⊥
 Hears claim file old (refuse code) new = ⊥
+Hears claim file old (poly_sums elements) new = new ≡ record old { answers = old.answers ++ poly_sums elements ∷ [] }
 Hears claim file old (want said) new = ⊥
 Hears claim file old (block given) new = ⊥
 Hears claim file old (out said) new = ⊥

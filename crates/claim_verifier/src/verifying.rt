@@ -4,6 +4,7 @@ ghost use Rattle.std.specs.Thread.{IsSync};
 ghost use Rattle.std.proofs.Props.{props};
 ghost use Rattle.zk_model.specs.Files.{VerifierFile};
 ghost use Rattle.zk_model.specs.Frames as model;
+ghost use Rattle.zk_model.specs.Frames.{Allows};
 ghost use Rattle.zk_model.specs.Correlations.{span_keys};
 ghost use Rattle.zk_model.specs.ServedVerifier.{challenge_coin};
 ghost use Rattle.zk_model.specs.View.{span_of, verdict_code, verdict_number};
@@ -138,6 +139,8 @@ fn judge<R: Threads + Sync, C: Claim>(
       answers = map frame_value answers.now;
     }) }
     ensures enough { OnOk result (claim_needs (C.claim claim.now) given.section_length ≤ length (span_keys file.now (span_of given))) }
+    ensures placed { IfOk result (λ judgement. Allows (C.claim claim.now).verdict
+        (model.verdict (verdict_code (verdict_in judgement)) (verdict_number (verdict_in judgement)))) }
     ensures judged { IfOk result (λ judgement. (C.claim claim.now).judges file.now.key (span_keys file.now (span_of given)) (record {
       section_length = given.section_length;
       corrections = corrections.now;
@@ -253,6 +256,7 @@ impl<'a, O: Grantor, C: Claim> Voice<O> for Verifying<'a, C> {
             }
             Frame::Sums(both) => Ok(keep_answer(&mut self.answers, Frame::Sums(both))?),
             Frame::Openings(macs) => Ok(keep_answer(&mut self.answers, Frame::Openings(macs))?),
+            Frame::PolySums(sums) => Ok(keep_answer(&mut self.answers, Frame::PolySums(sums))?),
             _ => unreachable!(),
         }
     }
@@ -278,7 +282,7 @@ impl<'a, O: Grantor, C: Claim> Voice<O> for Verifying<'a, C> {
                 let given = the_grant(&self.given);
                 Ok(Frame::Challenge(self.file.challenge(given.start)))
             }
-            Expect::Verdict => {
+            Expect::Verdict | Expect::PolyVerdict => {
                 let given = the_grant(&self.given);
                 let judgement = judge(
                     rt,

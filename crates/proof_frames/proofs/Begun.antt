@@ -154,6 +154,16 @@ may_or_not (slot.Number least most at) before byte small = by_order (cases_lt mo
     by_order : (most < reached) ⊎ (reached ≤ most) → May (slot.Number least most at) before byte ⊎ (¬ May (slot.Number least most at) before byte)
     by_order (inl above) = inr (λ may. let within = may.1 in omega arith)
     by_order (inr within) = inl (small, within)
+may_or_not (slot.Behind at) before byte small = by_order (cases_lt 0 byte) (cases_lt code 1) (cases_lt 1 code)
+  where
+    code : ℕ
+    code = get_or before (length before - at - 1) 0
+
+    by_order : (0 < byte) ⊎ (byte ≤ 0) → (code < 1) ⊎ (1 ≤ code) → (1 < code) ⊎ (code ≤ 1) → May (slot.Behind at) before byte ⊎ (¬ May (slot.Behind at) before byte)
+    by_order (inr none) low high = inl (small, λ one. omega arith)
+    by_order (inl some) (inl low) high = inl (small, λ one. absurd (omega (arith, low, one)))
+    by_order (inl some) (inr least) (inl high) = inl (small, λ one. absurd (omega (arith, high, one)))
+    by_order (inl some) (inr least) (inr most) = inr (λ may. let none = may.1 (omega (arith, least, most)) in omega (arith, none, some))
 
 -- up to any of the bytes they begin a frame, or one is bad
 run : (place : Expect) (bytes : List ℕ) → All IsByte bytes → length bytes ≤ frame_length place bytes → (n : ℕ) → n ≤ length bytes

@@ -12,7 +12,7 @@ use Rattle.proof_frames.specs.declared.row.Slot.{Slot}
 use Rattle.proof_frames.specs.declared.row.Slot.TheVariants as slot
 use Rattle.proof_frames.specs.Rows.{May, FitsFields, FitsField, free, field_slots}
 use Rattle.proof_frames.proofs.EveryRow.{IsSoundField}
-use Rattle.proof_frames.proofs.Fields.{ComeAfter, slots, come_front, come_rest, fits_field, element_slot, within_range, reaches}
+use Rattle.proof_frames.proofs.Fields.{ComeAfter, slots, come_front, come_rest, fits_field, element_slot, within_range, reaches, decision_completes}
 use Rattle.proof_frames.proofs.Octets.{IsByte, back_64, ends_in_zero}
 
 -- part of an element, and zeros after it
@@ -69,6 +69,7 @@ field_completes (field.Bytes count size least most) before bytes sound come few 
     )
 field_completes field.Element before bytes sound come few = element_completes before bytes come few
 field_completes (field.Number least most) before bytes sound come few = number_completes least most before bytes sound come few
+field_completes field.Decision before bytes sound come few = decision_completes before bytes come few
 
 -- part of fields
 pub completes : (fields : List Field) (before bytes : List ℕ) → AllByRecursion IsSoundField fields → ComeAfter (slots fields) before bytes → length bytes ≤ length (slots fields)

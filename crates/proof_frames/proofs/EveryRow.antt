@@ -88,6 +88,7 @@ list_row = every_row (λ place row. is_list (longest place) ≡ true → row.pay
     by_place (expect.Ask height trees left) is = absurd (false≢true is)
     by_place (expect.Reply height trees left) is = absurd (false≢true is)
     by_place expect.Verdict is = absurd (false≢true is)
+    by_place expect.PolyVerdict is = absurd (false≢true is)
     by_place expect.Want is = absurd (false≢true is)
     by_place expect.Block is = absurd (false≢true is)
     by_place place is = refl
@@ -99,6 +100,7 @@ abbrev pub IsSoundField : Field → Type 0
 IsSoundField (field.Bytes count size least most) = least ≤ most
 IsSoundField field.Element = Unit {0}
 IsSoundField (field.Number least most) = least ≤ most
+IsSoundField field.Decision = Unit {0}
 
 -- the fields of all payloads
 abbrev AreSound : Payload → Type 0
@@ -116,6 +118,7 @@ sound_payload = every_row (λ place row. AreSound row.payload) (omega arith, ome
     by_place (expect.Ask height trees left) = (omega arith, tt)
     by_place (expect.Reply height trees left) = (omega arith, tt)
     by_place expect.Verdict = (omega arith, omega arith)
+    by_place expect.PolyVerdict = (tt, omega arith)
     by_place expect.Want = (omega arith, omega arith, omega arith)
     by_place expect.Block = (omega arith, omega arith)
     by_place place = tt

@@ -7,7 +7,7 @@ use Rattle.std.proofs.Math.Seq.{take-append-add}
 use Rattle.std.proofs.lemmas.Nat.{mod-mul-add}
 use Rattle.std.proofs.lemmas.Bool.{cases_lt}
 use Rattle.std.proofs.lemmas.Grind.{flat_map-append}
-use Rattle.std.proofs.lemmas.List.{take_all, take_more, drop_at, length-take-le, length-replicate, get_or-replicate, get_or_append_left, get_or-append_right, get_or-append-add, take-append-le}
+use Rattle.std.proofs.lemmas.List.{take_all, take_more, drop_at, length-take-le, length-replicate, get_or-replicate, get_or_append_left, get_or-append_right, get_or-append-add, get_or_past, take-append-le}
 use Rattle.std.proofs.lemmas.List.Elements.{All-from_get_or, All-nil, All-cons}
 use Rattle.zk_model.specs.Field.{IsElement}
 use Rattle.zk_model.specs.Bytes.{element_bytes}
@@ -18,9 +18,9 @@ use Rattle.proof_frames.specs.declared.row.Payload.{Payload}
 use Rattle.proof_frames.specs.declared.row.Payload.TheVariants as payload
 use Rattle.proof_frames.specs.declared.row.Slot.{Slot}
 use Rattle.proof_frames.specs.declared.row.Slot.TheVariants as slot
-use Rattle.proof_frames.specs.Rows.{IsFree, May, FitsFields, FitsField, AreWithin, SpellElement, SpellNumber, last_bytes, next_with, number_size, free, width, repeat, exactly, field_slots, payload_fields, payload_length}
-use Rattle.proof_frames.proofs.Numbers.{next_most, next_low, low_bytes, low_front, below_size}
-use Rattle.proof_frames.proofs.Octets.{IsByte, back_64, half_octets, says_element}
+use Rattle.proof_frames.specs.Rows.{IsFree, May, FitsFields, FitsField, AreWithin, SpellElement, SpellNumber, SpellDecision, last_bytes, next_with, number_size, free, width, repeat, exactly, field_slots, payload_fields, payload_length}
+use Rattle.proof_frames.proofs.Numbers.{next_most, next_low, low_bytes, low_front, below_size, padded_at}
+use Rattle.proof_frames.proofs.Octets.{IsByte, back_32, back_64, below_32, half_octets, says_element}
 
 -- ---- bytes that may come one after another
 
@@ -178,6 +178,98 @@ spells_number least most before bytes come sized =
     let reached = reaches least most 3 before bytes (omega arith) sized come in
     record { number = reached.0; at_least = reached.1; at_most = reached.2; spelled = reached.3 }
 
+-- at the bytes of a decision's number
+decision_slot : (n : ℕ) → n < 4 → get_or (field_slots field.Decision) (suc n) free ≡ slot.Behind n
+decision_slot zero less = refl
+decision_slot (suc zero) less = refl
+decision_slot (suc (suc zero)) less = refl
+decision_slot (suc (suc (suc zero))) less = refl
+decision_slot (suc (suc (suc (suc n)))) less = absurd (omega arith)
+
+-- the byte so many and one before is its first
+first_taken : (bytes : List ℕ) (n : ℕ) → n < length bytes → get_or (take (suc n) bytes) 0 0 ≡ get_or bytes 0 0
+first_taken [] n less = absurd (omega arith)
+first_taken (byte ∷ bytes) n less = refl
+
+first_before : (n : ℕ) (before bytes : List ℕ) → suc n ≤ length bytes
+    → get_or (before ++ take (suc n) bytes) (length (before ++ take (suc n) bytes) - n - 1) 0 ≡ get_or bytes 0 0
+first_before n before bytes less =
+    let at : length (before ++ take (suc n) bytes) - n - 1 ≡ length before + 0 =
+    omega (arith, length-append before (take (suc n) bytes), length-take-le (suc n) bytes less) in
+    ap (λ k. get_or (before ++ take (suc n) bytes) k 0) at ∙ get_or-append-add before (take (suc n) bytes) 0 0 ∙ first_taken bytes n (omega arith)
+
+zero_bytes : (number n : ℕ) → number ≡ 0 → n < 4 → get_or (to_le_bytes w32 number) n 0 ≡ 0
+zero_bytes number zero is less = omega (arith, is)
+zero_bytes number (suc zero) is less = omega (arith, is)
+zero_bytes number (suc (suc zero)) is less = omega (arith, is)
+zero_bytes number (suc (suc (suc zero))) is less = omega (arith, is)
+zero_bytes number (suc (suc (suc (suc n)))) is less = absurd (omega arith)
+
+decision_comes : (before bytes : List ℕ) → SpellDecision bytes → ComeAfter (field_slots field.Decision) before bytes
+decision_comes before bytes spells = subst (ComeAfter (field_slots field.Decision) before) (sym spells.spelled) by_place
+  where
+    five : List ℕ
+    five = spells.code ∷ to_le_bytes w32 spells.number
+
+    by_place : (n : ℕ) → n < 5 → IsFine (coming (field_slots field.Decision) before five n)
+    by_place zero less = (omega arith, spells.fits.said)
+    by_place (suc n) less =
+        subst (λ (s : Slot). May s (before ++ take (suc n) five) (get_or five (suc n) 0)) (sym (decision_slot n (omega arith))) (
+          half_octets spells.number n 0 (omega arith),
+          λ one. zero_bytes spells.number n (spells.fits.zero (sym (first_before n before five (omega arith)) ∙ one)) (omega arith),
+        )
+
+-- five bytes that come spell one
+pub spells_decision : (before bytes : List ℕ) → ComeAfter (field_slots field.Decision) before bytes → length bytes ≡ 5 → SpellDecision bytes
+spells_decision before [] come sized = absurd (omega (arith, sized))
+spells_decision before (code ∷ four) come sized = record {
+  code = code;
+  number = from_le_bytes w32 four;
+  fits = record {
+    said = (come 0 (omega arith)).1;
+    numbered = below_32 four octets;
+    zero = λ one. omega (arith, (at 0 (omega arith)).1 one, (at 1 (omega arith)).1 one, (at 2 (omega arith)).1 one, (at 3 (omega arith)).1 one);
+  };
+  spelled = ap (λ l. code ∷ l) (sym (back_32 four (omega (arith, sized)) octets));
+}
+  where
+    at : (n : ℕ) → n < 4 → (get_or four n 0 < 256) × (code ≡ 1 → get_or four n 0 ≡ 0)
+    at n less =
+        let may = subst (λ (s : Slot). May s (before ++ take (suc n) (code ∷ four)) (get_or four n 0)) (decision_slot n less) (come (suc n) (omega (arith, sized))) in
+        (may.0, λ one. may.1 (first_before n before (code ∷ four) (omega (arith, sized)) ∙ one))
+
+    octets : All IsByte four
+    octets = All-from_get_or IsByte four 0 (λ n less. (at n (omega (arith, sized))).0)
+
+-- with zeros behind they come
+zeros_come : (before bytes : List ℕ) (many : ℕ) → length bytes + many ≡ 5 → ComeAfter (field_slots field.Decision) before bytes
+    → ComeAfter (field_slots field.Decision) before (bytes ++ replicate many 0)
+zeros_come before bytes many sized come = λ n less. by_place n (omega (arith, less, length-append bytes (replicate many 0), length-replicate {A = ℕ} many 0)) (cases_lt n (length bytes))
+  where
+    zero_there : (n : ℕ) → length bytes ≤ n → get_or (bytes ++ replicate many 0) n 0 ≡ 0
+    zero_there n late = padded_at bytes many n ∙ get_or_past bytes n 0 late
+
+    by_place : (n : ℕ) → n < 5 → (n < length bytes) ⊎ (length bytes ≤ n) → IsFine (coming (field_slots field.Decision) before (bytes ++ replicate many 0) n)
+    by_place n less (inl early) =
+        subst (λ (q : List ℕ × ℕ). May (get_or (field_slots field.Decision) n free) (before ++ q.0) q.1)
+        (λ i. (sym (take-append-le n bytes (replicate many 0) (let k : n ≤ length bytes = omega arith in k)) i, sym (get_or_append_left bytes (replicate many 0) 0 n early) i)) (come n early)
+    by_place zero less (inr late) =
+        let none = zero_there zero late in (omega arith, omega (arith, none))
+    by_place (suc n) less (inr late) =
+        let none = zero_there (suc n) late in
+        subst (λ (s : Slot). May s (before ++ take (suc n) (bytes ++ replicate many 0)) (get_or (bytes ++ replicate many 0) (suc n) 0)) (sym (decision_slot n (omega arith)))
+        (omega (arith, none), λ one. none)
+
+-- part of a decision, and zeros after it
+pub decision_completes : (before bytes : List ℕ) → ComeAfter (field_slots field.Decision) before bytes → length bytes < 5
+    → (rest : List ℕ) × SpellDecision (bytes ++ rest)
+decision_completes before bytes come few =
+    let many = 5 - length bytes in
+    let zeros : List ℕ = replicate many 0 in (
+      zeros,
+      spells_decision before (bytes ++ zeros) (zeros_come before bytes many (omega arith) come) (omega (arith, length-append bytes zeros, length-replicate {A = ℕ} many 0)),
+    )
+
 bytes_come : (count least most : ℕ) (before bytes : List ℕ) → AreWithin count least most bytes → ComeAfter (replicate count (slot.Range least most)) before bytes
 bytes_come count least most before bytes are = λ n less.
     subst (λ (s : Slot). May s (before ++ take n bytes) (get_or bytes n 0))
@@ -192,6 +284,7 @@ pub field_comes : (one : Field) (before bytes : List ℕ) → FitsField one byte
 field_comes (field.Bytes count size least most) before bytes fits = bytes_come (size * count) least most before bytes fits
 field_comes field.Element before bytes fits = element_comes before bytes fits
 field_comes (field.Number least most) before bytes fits = number_comes least most before bytes fits
+field_comes field.Decision before bytes fits = decision_comes before bytes fits
 
 pub fits_field : (one : Field) (before bytes : List ℕ) → ComeAfter (field_slots one) before bytes → length bytes ≡ length (field_slots one) → FitsField one bytes
 fits_field (field.Bytes count size least most) before bytes come sized =
@@ -199,16 +292,19 @@ fits_field (field.Bytes count size least most) before bytes come sized =
     record { counted = counted; ranged = within_range (size * count) least most before bytes come (omega (arith, counted)) }
 fits_field field.Element before bytes come sized = spells_element before bytes come sized
 fits_field (field.Number least most) before bytes come sized = spells_number least most before bytes come sized
+fits_field field.Decision before bytes come sized = spells_decision before bytes come sized
 
 field_length : (one : Field) → length (field_slots one) ≡ width one
 field_length (field.Bytes count size least most) = length-replicate (size * count) (slot.Range least most)
 field_length field.Element = refl
 field_length (field.Number least most) = refl
+field_length field.Decision = refl
 
 field_sized : (one : Field) (bytes : List ℕ) → FitsField one bytes → length bytes ≡ length (field_slots one)
 field_sized (field.Bytes count size least most) bytes fits = fits.counted ∙ sym (length-replicate (size * count) (slot.Range least most))
 field_sized field.Element bytes fits = ap length fits.spelled
 field_sized (field.Number least most) bytes fits = ap length fits.spelled
+field_sized field.Decision bytes fits = ap length fits.spelled
 
 -- ---- fields after one another
 
@@ -411,3 +507,4 @@ free_bytes p times at wide more first second is is_wide is_more less is_free her
         get_or-replicate (size * count) n (slot.Range least most) free less ∙ (λ i. slot.Range (is_free.0 i) (is_free.1 i))
     any_slot field.Element n is_free less = absurd is_free
     any_slot (field.Number least most) n is_free less = absurd is_free
+    any_slot field.Decision n is_free less = absurd is_free

@@ -52,7 +52,7 @@ same_low (suc (suc (suc zero))) n less = λ i.
 same_low (suc (suc (suc (suc at)))) n less = absurd (omega arith)
 
 -- with zeros behind
-padded_at : (bytes : List ℕ) (many k : ℕ) → get_or (bytes ++ replicate many 0) k 0 ≡ get_or bytes k 0
+pub padded_at : (bytes : List ℕ) (many k : ℕ) → get_or (bytes ++ replicate many 0) k 0 ≡ get_or bytes k 0
 padded_at [] zero k = refl
 padded_at [] (suc many) zero = refl
 padded_at [] (suc many) (suc k) = padded_at [] many k

@@ -11,7 +11,7 @@ use Rattle.zk_model.specs.Messages.{FitsWant, FitsBlock, FitsOut, want_frame, bl
 use Rattle.zk_model.specs.declared.messages.Block.{Block}
 use Rattle.zk_model.specs.declared.messages.Out.{Out}
 use Rattle.zk_model.specs.Frames as model
-use Rattle.zk_model.specs.Frames.{Frame, FitsGrant, FitsRefusal, FitsVerdict, AreAsks, AreReplies, AreElements, AreSums, frame_spelling}
+use Rattle.zk_model.specs.Frames.{Frame, FitsGrant, FitsRefusal, FitsVerdict, FitsPolyVerdict, AreAsks, AreReplies, AreElements, AreSums, frame_spelling}
 use Rattle.zk_model.specs.declared.Expect.TheVariants as expect
 use Rattle.zk_model.specs.declared.FrameKind.TheVariants as kind
 use Rattle.proof_frames.specs.Frames.{want_in, block_in, out_in}
@@ -31,6 +31,12 @@ grant_code x y ps qs left right same =
 
 verdict_code : IsCode (λ (said : ℕ × ℕ). verdict_frame said.0 said.1) (λ said. FitsVerdict said.0 said.1)
 verdict_code x y ps qs left right same =
+    let number = word32_code x.1 y.1 ps qs left.numbered right.numbered (ap (drop 6) same) in
+    let code : x.0 ≡ y.0 = ap (λ l. get_or l 5 0) same in
+    (λ i. (code i, number.0 i), number.1)
+
+poly_verdict_code : IsCode (λ (said : ℕ × ℕ). verdict_frame said.0 said.1) (λ said. FitsPolyVerdict said.0 said.1)
+poly_verdict_code x y ps qs left right same =
     let number = word32_code x.1 y.1 ps qs left.numbered right.numbered (ap (drop 6) same) in
     let code : x.0 ≡ y.0 = ap (λ l. get_or l 5 0) same in
     (λ i. (code i, number.0 i), number.1)
@@ -101,6 +107,10 @@ none_begins_another (expect.Openings count) one other a b = by_code model.openin
     (λ x y ps qs is is_too. elements_code kind.Openings count x y ps qs (is.counted, is.ranged) (is_too.counted, is_too.ranged)) one other a b
 none_begins_another expect.Verdict one other a b =
     by_code (λ (said : ℕ × ℕ). model.verdict said.0 said.1) (λ said. FitsVerdict said.0 said.1) verdict_code one other ((a.0, a.1), a.2, a.3) ((b.0, b.1), b.2, b.3)
+none_begins_another (expect.PolySums count) one other a b = by_code model.poly_sums (AreElements count)
+    (λ x y ps qs is is_too. elements_code kind.Sums count x y ps qs (is.counted, is.ranged) (is_too.counted, is_too.ranged)) one other a b
+none_begins_another expect.PolyVerdict one other a b =
+    by_code (λ (said : ℕ × ℕ). model.verdict said.0 said.1) (λ said. FitsPolyVerdict said.0 said.1) poly_verdict_code one other ((a.0, a.1), a.2, a.3) ((b.0, b.1), b.2, b.3)
 none_begins_another expect.Want one other a b = by_code model.want FitsWant want_code one other a b
 none_begins_another expect.Block one other (inl a) (inl b) = by_code model.block FitsBlock block_code one other a b
 none_begins_another expect.Block one other (inl a) (inr b) = λ begun.

@@ -10,7 +10,7 @@ use Rattle.zk_model.specs.Field.{IsElement}
 use Rattle.zk_model.specs.Bytes.{AreBytes, element_bytes}
 use Rattle.zk_model.specs.Transcript.{Hello, Grant, IsHello, frame_bytes, kind_number}
 use Rattle.zk_model.specs.Frames as model
-use Rattle.zk_model.specs.Frames.{Frame, Allows, IsWhole, FitsGrant, FitsVerdict, FitsRefusal, AreAsks, AreReplies, AreElements, AreSums, frame_spelling}
+use Rattle.zk_model.specs.Frames.{Frame, Allows, IsWhole, FitsGrant, FitsVerdict, FitsPolyVerdict, FitsRefusal, AreAsks, AreReplies, AreElements, AreSums, frame_spelling}
 use Rattle.zk_model.specs.Messages.{FitsWant, FitsBlock, FitsOut}
 use Rattle.zk_model.specs.declared.limits.TheConstants.{MAX_NODES, MAX_UNITS}
 use Rattle.zk_model.specs.declared.messages.Block.{Block}
@@ -172,6 +172,12 @@ verdict_spells =
     as_spells (λ (said : ℕ × ℕ). said.0 ∷ to_le_bytes w32 said.1) (λ said. FitsVerdict said.0 said.1) (two_spell (between 0 2) (any 4) (byte_spells 0 2) half_spells)
     (λ said is. (said, ((omega arith, is.said), is.numbered), refl)) (λ said is. (said, record { said = is.0.1; numbered = is.1 }, refl))
 
+decision_spells : Spells (λ (said : ℕ × ℕ). said.0 ∷ to_le_bytes w32 said.1) (λ said. FitsPolyVerdict said.0 said.1) (FitsField field.Decision)
+decision_spells = record {
+  fits = λ said is. record { code = said.0; number = said.1; fits = is; spelled = refl };
+  back = λ bytes fits. record { value = (fits.code, fits.number); is = fits.fits; spelled = fits.spelled };
+}
+
 -- ---- payloads of lists
 
 elements_spell : (count : ℕ) → Spells (flat_map element_bytes) (AreElements count) (FitsFields (repeat count (field.Element ∷ [])))
@@ -265,6 +271,9 @@ verdict_of said = model.verdict said.0 said.1
 abbrev verdicts : Means (row_of expect.Verdict 0) (Frames verdict_of (λ said. FitsVerdict said.0 said.1))
 verdicts = means (row_of expect.Verdict 0) verdict_of verdict_spells (λ said. refl)
 
+abbrev poly_verdicts : Means (row_of expect.PolyVerdict 0) (Frames verdict_of (λ said. FitsPolyVerdict said.0 said.1))
+poly_verdicts = means (row_of expect.PolyVerdict 0) verdict_of (alone_spells field.Decision decision_spells) (λ said. refl)
+
 -- the frame that a payload says at a place
 pub record Says (place : Expect) (row : Row) (payload : List ℕ) (frame : Frame) : Type 0 where
   pub allowed : Allows place frame
@@ -307,6 +316,15 @@ verdict_said payload fits =
     subst (Says expect.Verdict (row_of expect.Verdict 0) payload) (ap verdict_in (sym front))
     (record { allowed = (said.1.0.0, said.1.0.1, said.1.1, said.1.2); spelled = said.2 })
 
+pub poly_verdict_said : (payload : List ℕ) → FitsFields (payload_fields (row_of expect.PolyVerdict 0).payload) payload
+    → Says expect.PolyVerdict (row_of expect.PolyVerdict 0) payload (verdict_in payload)
+poly_verdict_said payload fits =
+    let said = poly_verdicts.frame payload fits in
+    let again : verdict_in payload ≡ verdict_of said.1.0 =
+    ap verdict_in (sym (ap (drop 5) said.2)) ∙ ap (model.verdict said.1.0.0) (from_le_bytes-to_le_bytes_4 said.1.0.1 (let few = said.1.2.numbered in omega arith)) in
+    subst (Says expect.PolyVerdict (row_of expect.PolyVerdict 0) payload) (sym again)
+    (record { allowed = (said.1.0.0, said.1.0.1, refl, said.1.2); spelled = ap frame_spelling (sym said.1.1) ∙ said.2 })
+
 -- a want's bytes say it
 pub want_again : (want : Want) → FitsWant want → want_in (want_bytes want) ≡ want
 want_again want is = λ i. record {
@@ -339,6 +357,7 @@ Plain expect.Hello frame = Frames model.hello (λ said. IsHello said × IsDigest
 Plain expect.ShortHello frame = Frames model.hello (λ said. IsHello said × IsDigest 0 said.public) frame
 Plain expect.Grant frame = Frames model.grant FitsGrant frame
 Plain expect.Verdict frame = Frames verdict_of (λ said. FitsVerdict said.0 said.1) frame
+Plain expect.PolyVerdict frame = Frames verdict_of (λ said. FitsPolyVerdict said.0 said.1) frame
 Plain expect.Block frame = Frames model.block FitsBlock frame
 Plain place frame = Allows place frame
 
@@ -353,6 +372,8 @@ plain expect.Challenge = means (row_of expect.Challenge 0) model.challenge chall
 plain (expect.Sums sections) = means (row_of (expect.Sums sections) 0) model.sums (sums_spell sections) (λ said. refl)
 plain (expect.Openings count) = means (row_of (expect.Openings count) 0) model.openings (elements_spell count) (λ said. refl)
 plain expect.Verdict = verdicts
+plain (expect.PolySums count) = means (row_of (expect.PolySums count) 0) model.poly_sums (elements_spell count) (λ said. refl)
+plain expect.PolyVerdict = poly_verdicts
 plain expect.Want = wants
 plain expect.Block = blocks
 
@@ -381,6 +402,7 @@ allowed_word expect.Grant frame (inr is) = of_row expect.Grant 10 frame refusals
 allowed_word expect.Block frame (inl is) = of_row expect.Block 0 frame blocks is
 allowed_word expect.Block frame (inr is) = of_row expect.Block 13 frame outs is
 allowed_word expect.Verdict frame is = of_row expect.Verdict 0 frame verdicts ((is.0, is.1), is.2, is.3)
+allowed_word expect.PolyVerdict frame is = of_row expect.PolyVerdict 0 frame poly_verdicts ((is.0, is.1), is.2, is.3)
 allowed_word place frame is = of_row place 0 frame (plain place) is
 
 -- a word is the bytes of the frame that its payload says
@@ -403,4 +425,5 @@ word_whole place word is =
     payload_said expect.Grant byte bytes fits = (grant_or_refusal_in byte bytes, grant_said byte bytes fits)
     payload_said expect.Block byte bytes fits = (block_or_out_in byte bytes, block_said byte bytes fits)
     payload_said expect.Verdict byte bytes fits = (verdict_in bytes, verdict_said bytes fits)
+    payload_said expect.PolyVerdict byte bytes fits = (verdict_in bytes, poly_verdict_said bytes fits)
     payload_said place byte bytes fits = let said = (plain place).frame bytes fits in (said.0, record { allowed = said.1; spelled = said.2 })

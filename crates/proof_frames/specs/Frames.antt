@@ -31,6 +31,7 @@ frame_value (frame.Refuse code) = model.refuse code
 frame_value (frame.Want said) = model.want said
 frame_value (frame.Block given) = model.block given
 frame_value (frame.Out said) = model.out said
+frame_value (frame.PolySums elements) = model.poly_sums elements.items
 
 -- the kind of a frame
 abbrev pub kind_of : model.Frame → FrameKind
@@ -47,6 +48,7 @@ kind_of (model.refuse code) = kind.Refuse
 kind_of (model.want frame_value) = kind.Want
 kind_of (model.block given) = kind.Block
 kind_of (model.out frame_value) = kind.Out
+kind_of (model.poly_sums elements) = kind.Sums
 
 -- a frame of at most 2^24 bytes after its kind and its length
 abbrev pub IsShort : model.Frame → Type 0
@@ -60,6 +62,7 @@ IsRanged (model.corrections elements) = All IsElement elements
 IsRanged (model.challenge element) = IsElement element
 IsRanged (model.sums both) = All (λ q. IsElement q.0 × IsElement q.1) both
 IsRanged (model.openings macs) = All IsElement macs
+IsRanged (model.poly_sums elements) = All IsElement elements
 IsRanged frame = Unit {0}
 
 -- the bytes of what is asked for a tree

@@ -3,7 +3,7 @@ use Rattle.std.specs.Prelude.{◌≡◌, ℕ, zero, suc, ◌+◌, ◌-◌, ◌*�
 use Rattle.std.specs.Int.{w32, w64, to_le_bytes, from_le_bytes}
 use Rattle.zk_model.specs.Field.{IsElement}
 use Rattle.zk_model.specs.Bytes.{element_bytes}
-use Rattle.zk_model.specs.Frames.{frame_length}
+use Rattle.zk_model.specs.Frames.{FitsPolyVerdict, frame_length}
 use Rattle.zk_model.specs.Transcript.{kind_number}
 use Rattle.zk_model.specs.declared.Expect.{Expect}
 use Rattle.zk_model.specs.declared.Expect.TheVariants as expect
@@ -66,6 +66,8 @@ row_of expect.Challenge first = record { kind = kind.Challenge; payload = payloa
 row_of (expect.Sums sections) first = record { kind = kind.Sums; payload = payload.Elements (2 * sections) }
 row_of (expect.Openings count) first = record { kind = kind.Openings; payload = payload.Elements count }
 row_of expect.Verdict first = record { kind = kind.Verdict; payload = payload.Fields 1 (between 0 2) (any 4) }
+row_of (expect.PolySums count) first = record { kind = kind.Sums; payload = payload.Elements count }
+row_of expect.PolyVerdict first = record { kind = kind.Verdict; payload = one_field field.Decision }
 row_of expect.Want first = record { kind = kind.Want; payload = want_payload }
 row_of expect.Block first =
     if nat_eq first 13
@@ -79,6 +81,7 @@ abbrev pub width : Field → ℕ
 width (field.Bytes count size least most) = size * count
 width field.Element = 8
 width (field.Number least most) = 4
+width field.Decision = 5
 
 -- how many bytes a payload has
 abbrev pub payload_length : Payload → ℕ
@@ -131,11 +134,19 @@ pub record SpellNumber (least most : ℕ) (bytes : List ℕ) : Type 0 where
   pub at_most : number ≤ most
   pub spelled : bytes ≡ to_le_bytes w32 number
 
+-- the bytes of a verdict about constraints
+pub record SpellDecision (bytes : List ℕ) : Type 0 where
+  pub code : ℕ
+  pub number : ℕ
+  pub fits : FitsPolyVerdict code number
+  pub spelled : bytes ≡ code ∷ to_le_bytes w32 number
+
 -- bytes that a field allows
 abbrev pub FitsField : Field → List ℕ → Type 0
 FitsField (field.Bytes count size least most) bytes = AreWithin (size * count) least most bytes
 FitsField field.Element bytes = SpellElement bytes
 FitsField (field.Number least most) bytes = SpellNumber least most bytes
+FitsField field.Decision bytes = SpellDecision bytes
 
 -- bytes that fields allow, one field after another
 abbrev pub FitsFields : List Field → List ℕ → Type 0
@@ -158,6 +169,7 @@ abbrev pub field_slots : Field → List Slot
 field_slots (field.Bytes count size least most) = replicate (size * count) (slot.Range least most)
 field_slots field.Element = replicate 7 free ++ slot.Last ∷ []
 field_slots (field.Number least most) = map (slot.Number least most) (0 ∷ 1 ∷ 2 ∷ 3 ∷ [])
+field_slots field.Decision = slot.Range 0 1 ∷ map slot.Behind (0 ∷ 1 ∷ 2 ∷ 3 ∷ [])
 
 -- what may come at each byte of a frame
 abbrev pub frame_slots : Expect → ℕ → List Slot
@@ -179,12 +191,13 @@ abbrev pub last_bytes : ℕ → List ℕ → List ℕ
 last_bytes count bytes = drop (length bytes - count) bytes
 
 -- A byte may come after others: it is in the range; with the seven before it, where they are, it spells an element; or with as many
--- before it it is the low bytes of a number in the range.
+-- before it it is the low bytes of a number in the range; or it is 0 where the byte so many and one before it is 1.
 abbrev pub May : Slot → List ℕ → ℕ → Type 0
 May (slot.Range least most) before byte = (least ≤ byte) × (byte ≤ most)
 May slot.Last before byte = (byte < 256) × (7 ≤ length before → IsElement (from_le_bytes w64 (drop (length before - 7) before ++ byte ∷ [])))
 May (slot.Number least most at) before byte =
     (byte < 256) × (next_with least (number_size at) (from_le_bytes w32 (last_bytes at before ++ byte ∷ [])) ≤ most)
+May (slot.Behind at) before byte = (byte < 256) × (get_or before (length before - at - 1) 0 ≡ 1 → byte ≡ 0)
 
 -- a byte may come after others at a place
 abbrev pub MayFollow : Expect → List ℕ → ℕ → Type 0

@@ -142,7 +142,7 @@ pub fn encode_replies(alloc: Global, replies: &[TreeReply]) -> Result<Vec<u8>, A
     encode_trees(alloc, FrameKind::ExtendReply, replies)
 }
 
-/// A frame of elements, as it is sent: corrections, a challenge or openings, 8 bytes for each element.
+/// A frame of elements, as it is sent: corrections, a challenge, openings or the sums of constraints, 8 bytes for each element.
 ///
 /// # Errors
 ///
@@ -243,6 +243,7 @@ pub fn encode(alloc: Global, frame: &Frame) -> Result<Vec<u8>, AllocError>
         Frame::Want(want) => encode_want(alloc, want)?,
         Frame::Block(block) => encode_block(alloc, block)?,
         Frame::Out(out) => encode_out(alloc, out)?,
+        Frame::PolySums(sums) => encode_elements(alloc, FrameKind::Sums, sums)?,
     };
     Ok(bytes)
 }

@@ -88,6 +88,8 @@ pub enum Frame {
     Block(Block),
     /// What stands in place of a block.
     Out(Out),
+    /// The sums of constraints.
+    PolySums(Vec<Fe>),
 }
 
 impl Frame {
@@ -111,6 +113,7 @@ impl Frame {
             Frame::Want(_) => FrameKind::Want,
             Frame::Block(_) => FrameKind::Block,
             Frame::Out(_) => FrameKind::Out,
+            Frame::PolySums(_) => FrameKind::Sums,
         }
     }
 }

@@ -5,14 +5,15 @@ ghost use Rattle.zk_model.specs.Field.{IsElement};
 ghost use Rattle.zk_model.specs.Frames.{frame_length};
 ghost use Rattle.zk_model.specs.declared.limits.TheConstants.{MAX_PAYLOAD};
 ghost use Rattle.proof_frames.specs.Readings.{IsShortPlace};
-ghost use Rattle.proof_frames.specs.Rows.{told_at, next_with, number_size, last_bytes};
+ghost use Rattle.proof_frames.specs.Rows.{May, told_at, next_with, number_size, last_bytes};
+ghost use Rattle.proof_frames.specs.declared.row.Slot.TheVariants as slot;
 
 use crate::frame::number_of;
 use mersenne_field::Fe;
 use zk_model::{Expect, FrameKind, MAX_NODES, MAX_UNITS};
 
-/// What stands in a payload: so many times so many bytes, each in a range; an element; or a number of 32 bits in a range. Elements
-/// and numbers have their low byte first.
+/// What stands in a payload: so many times so many bytes, each in a range; an element; a number of 32 bits in a range; or a decision, which
+/// is a byte of 0 or 1 and a number of 32 bits, 0 behind a 1. Elements and numbers have their low byte first.
 #[derive(Clone, Copy, Debug, PartialEq, Eq)]
 pub(crate) enum Field {
     Bytes {
@@ -26,6 +27,7 @@ pub(crate) enum Field {
         least: u32,
         most: u32,
     },
+    Decision,
 }
 
 /// What stands after a frame's header.
@@ -56,13 +58,14 @@ pub(crate) struct Row {
     pub(crate) payload: Payload,
 }
 
-/// What may come at one byte of a frame: a byte in a range; the last byte of an element; or, after so many bytes of it, a byte
-/// of a number in a range.
+/// What may come at one byte of a frame: a byte in a range; the last byte of an element; after so many bytes of it, a byte
+/// of a number in a range; or a byte that is 0 where the one so many and one before it is 1.
 #[derive(Clone, Copy, Debug, PartialEq, Eq)]
 pub(crate) enum Slot {
     Range { least: u8, most: u8 },
     Last,
     Number { least: u32, most: u32, at: usize },
+    Behind { at: usize },
 }
 
 /// The place of the byte that tells the row of a frame.
@@ -148,6 +151,17 @@ fn goes_on_to_number(least: u32, most: u32, at: usize, bytes: &[u8], last: u8) -
     least + (low + size - least % size) % size <= u64::from(most)
 }
 
+/// Whether a byte may come so many and one behind another.
+fn may_stand_behind(at: usize, before: &[u8], byte: u8) -> bool
+    ensures { IsTrue result ↔ May (slot.Behind at) before.now byte }
+{
+    let code = match before.get(before.len().saturating_sub(at).saturating_sub(1)) {
+        Some(code) => *code,
+        None => 0,
+    };
+    code != 1 || byte == 0
+}
+
 impl Slot {
     ghost use Rattle.proof_frames.specs.Rows.{May};
 
@@ -159,6 +173,7 @@ impl Slot {
             Slot::Range { least, most } => least <= byte && byte <= most,
             Slot::Last => before.len() < 7 || ends_element(before, byte),
             Slot::Number { least, most, at } => goes_on_to_number(least, most, at, before, byte),
+            Slot::Behind { at } => may_stand_behind(at, before, byte),
         }
     }
 }
@@ -202,6 +217,7 @@ impl Field {
             Field::Bytes { count, size, .. } => size * count,
             Field::Element => 8,
             Field::Number { .. } => 4,
+            Field::Decision => 5,
         }
     }
 
@@ -211,7 +227,7 @@ impl Field {
     {
         match self {
             Field::Bytes { least, most, .. } => least == 0 && most == 255,
-            Field::Element | Field::Number { .. } => false,
+            Field::Element | Field::Number { .. } | Field::Decision => false,
         }
     }
 
@@ -228,6 +244,8 @@ impl Field {
                 most: 255,
             },
             Field::Number { least, most } => Slot::Number { least, most, at },
+            Field::Decision if at == 0 => Slot::Range { least: 0, most: 1 },
+            Field::Decision => Slot::Behind { at: at - 1 },
         }
     }
 }
@@ -395,6 +413,8 @@ impl Row {
                 let payload = Payload::fields(1, Field::between(0, 2), Field::any(4));
                 (FrameKind::Verdict, payload)
             }
+            Expect::PolySums { count } => (FrameKind::Sums, Payload::Elements { count }),
+            Expect::PolyVerdict => (FrameKind::Verdict, Payload::one_field(Field::Decision)),
             Expect::Want => (FrameKind::Want, Payload::want()),
             Expect::Block if byte == 13 => (FrameKind::Out, Payload::one_field(Field::any(20))),
             Expect::Block => (FrameKind::Block, Payload::one_field(Field::any(24))),

@@ -149,6 +149,8 @@ pub(crate) fn whole_frame(alloc: Global, place: Expect, held: &mut Held, rooms: 
         Expect::Sums { .. } => Frame::Sums(pairs_of(alloc, &held.elements, &mut rooms.pairs)),
         Expect::Openings { .. } => Frame::Openings(held.give_elements(alloc)),
         Expect::Verdict => verdict_of(held.payload()),
+        Expect::PolySums { .. } => Frame::PolySums(held.give_elements(alloc)),
+        Expect::PolyVerdict => verdict_of(held.payload()),
         Expect::Want => Frame::Want(want_of(held.payload())),
         Expect::Block => block_or_out_of(held.start[0], held.payload()),
     }

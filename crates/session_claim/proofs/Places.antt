@@ -16,7 +16,7 @@ use Rattle.zk_model.specs.declared.Params.{Params}
 use Rattle.zk_model.specs.declared.limits.TheConstants.{MAX_HEIGHT, MAX_TREES, MAX_UNITS}
 use Rattle.proof_frames.specs.Readings.{IsShortPlace}
 use Rattle.session_script.specs.Scripts.{weight}
-use Rattle.session_claim.specs.Claims.{Claim}
+use Rattle.session_claim.specs.Claims.{Claim, IsVerdictPlace}
 use Rattle.session_claim.specs.Script.{rounds_places, claim_places, claim_behind}
 
 -- ---- one more
@@ -74,8 +74,13 @@ rounds_weight : (params : Params) (given : Grant) (kind : Kind)
 rounds_weight params given Direct = omega arith
 rounds_weight params given Extended = omega (arith, weight_on (round_places params given) [], round_weight params given)
 
-pub claim_few : (claim : Claim) (section_length : ℕ) → weight (claim.answers section_length) ≤ 2 ^ 20 → weight (claim_places claim section_length) ≤ 2 ^ 20 + 3
-claim_few claim section_length few = omega (arith, weight_on (claim.answers section_length) (expect.Verdict ∷ []), few)
+one_place : (place : Expect) → IsVerdictPlace place → weight (place ∷ []) ≡ 1
+one_place expect.Verdict is = refl
+one_place expect.PolyVerdict is = refl
+one_place place is = absurd is
+
+pub claim_few : (claim : Claim) (section_length : ℕ) → IsVerdictPlace claim.verdict → weight (claim.answers section_length) ≤ 2 ^ 20 → weight (claim_places claim section_length) ≤ 2 ^ 20 + 3
+claim_few claim section_length verdict few = omega (arith, weight_on (claim.answers section_length) (claim.verdict ∷ []), one_place claim.verdict verdict, few)
 
 pub behind_few : (params : Params) (claim : Claim) (given : Grant) → given.count ≤ MAX_UNITS
     → weight (claim_places claim given.section_length) ≤ 2 ^ 20 + 3 → weight (claim_behind params claim given) ≤ 2 ^ 24

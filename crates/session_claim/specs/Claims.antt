@@ -30,15 +30,22 @@ IsGreeting expect.Hello = Unit {0}
 IsGreeting expect.ShortHello = Unit {0}
 IsGreeting place = ⊥
 
+-- the place of a verdict
+abbrev pub IsVerdictPlace : Expect → Type 0
+IsVerdictPlace expect.Verdict = Unit {0}
+IsVerdictPlace expect.PolyVerdict = Unit {0}
+IsVerdictPlace place = ⊥
+
 -- places where the prover answers a challenge
 abbrev pub AreAnswers : List Expect → Type 0
 AreAnswers [] = Unit {0}
 AreAnswers (expect.Sums sections ∷ places) = AreAnswers places
 AreAnswers (expect.Openings count ∷ places) = AreAnswers places
+AreAnswers (expect.PolySums count ∷ places) = AreAnswers places
 AreAnswers (place ∷ places) = ⊥
 
 -- A claim: the place of its hello; the hellos that are for it, with files of this id, and what differs first in another; how many values
--- it commits; how many masks it takes, and the places of the prover's answers, by the length of sections; what a verifier finds, by its
+-- it commits; how many masks it takes, and the places of the prover's answers, by the length of sections; the place of the verdict; what a verifier finds, by its
 -- key, the keys of all correlations and the exchange; and what acceptance shows, of the prover's pairs, the exchange and the key.
 pub record Claim : Type 1 where
   pub greeting : Expect
@@ -47,13 +54,15 @@ pub record Claim : Type 1 where
   pub givens : ℕ
   pub masks : ℕ → ℕ
   pub answers : ℕ → List Expect
+  pub verdict : Expect
   pub judges : ℕ → List ℕ → Exchange → Judgement → Type 0
   pub shows : List Pair → Exchange → ℕ → Type 0
 
--- its hello and its answers stand where they may
+-- its hello, its answers and its verdict stand where they may
 pub record HasPlaces (claim : Claim) : Type 0 where
   pub greeting : IsGreeting claim.greeting
   pub answers : (section_length : ℕ) → AreAnswers (claim.answers section_length)
+  pub verdict : IsVerdictPlace claim.verdict
 
 -- how many correlations a session about it takes
 abbrev pub claim_needs : Claim → ℕ → ℕ

@@ -20,7 +20,7 @@ rounds_places params given = flat_map (λ n. round_places params given) (range_w
 -- the places after all rounds
 abbrev pub claim_places : Claim → ℕ → List Expect
 claim_places claim section_length =
-    expect.Corrections claim.givens ∷ expect.Challenge ∷ claim.answers section_length ++ expect.Verdict ∷ []
+    expect.Corrections claim.givens ∷ expect.Challenge ∷ claim.answers section_length ++ claim.verdict ∷ []
 
 -- all places that a grant leaves
 abbrev pub claim_behind : Params → Claim → Grant → List Expect

@@ -3,6 +3,8 @@ ghost use Rattle.std.specs.Prelude.{◌≡◌, ◌≤◌, ◌^◌, All, length, 
 ghost use Rattle.std.specs.Thread.{IsSync};
 ghost use Rattle.zk_model.specs.Frames as frames;
 ghost use Rattle.zk_model.specs.Frames.{Allows};
+ghost use Rattle.zk_model.specs.View.{verdict_code, verdict_number};
+ghost use Rattle.session_core.specs.Judgements.{verdict_in};
 ghost use Rattle.zk_model.specs.declared.Expect.TheVariants as expect;
 ghost use Rattle.proof_frames.specs.Frames.{frame_value};
 ghost use Rattle.proof_frames.specs.Readings.{IsShortPlace};
@@ -44,7 +46,7 @@ pub trait Claim {
         requires { 1 ≤ section }
         ensures { result ≡ claim_needs (claim self.now) section };
 
-    /// That its places are those of a hello and of answers.
+    /// That its places are those of a hello, of answers and of a verdict.
     fn has_places(&self)
         ensures { HasPlaces (claim self.now) };
 
@@ -62,6 +64,11 @@ pub trait Claim {
         ensures places { IfOk result (λ places. places.items ≡ (claim self.now).answers section) }
         ensures short { IfOk result (λ places. All IsShortPlace places.items) }
         ensures few { IfOk result (λ places. weight places.items ≤ 2 ^ 20) };
+
+    /// The place of its verdict.
+    fn verdict_place(&self) -> Expect
+        ensures place { result ≡ (claim self.now).verdict }
+        ensures short { IsShortPlace result };
 
     /// What a verifier finds, by its key, the keys of all correlations, and what passed.
     ///
@@ -88,7 +95,9 @@ pub trait Claim {
           challenge = challenge;
           answers = map frame_value answers.now;
         }) }
-        ensures { IfOk result (λ judgement. (claim self.now).judges key keys.now (record {
+        ensures placed { IfOk result (λ judgement. Allows (claim self.now).verdict
+            (frames.verdict (verdict_code (verdict_in judgement)) (verdict_number (verdict_in judgement)))) }
+        ensures judged { IfOk result (λ judgement. (claim self.now).judges key keys.now (record {
           section_length = section;
           corrections = corrections.now;
           challenge = challenge;

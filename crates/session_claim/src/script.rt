@@ -113,12 +113,13 @@ fn add_claim<C: Claim>(
     ensures short { OnOk result (All IsShortPlace (claim_places (C.claim claim.now) section)) }
     ensures few { OnOk result (weight (claim_places (C.claim claim.now) section) ≤ 2 ^ 20 + 3) }
 {
+    claim.has_places();
     let count = claim.givens();
     add(places, Expect::Corrections { count })?;
     add(places, Expect::Challenge)?;
     let answers = claim.answers(alloc, section)?;
     add_all(places, &answers)?;
-    add(places, Expect::Verdict)?;
+    add(places, claim.verdict_place())?;
     Ok(())
 }
 

@@ -2,7 +2,7 @@
 use Rattle.std.proofs.Common.{◌≡◌, ◌⊎◌, ℕ, inl, inr, Option, Some, None, List, [], ◌∷◌, ◌++◌, map, flat_map, get_or, refl, sym, ◌∙◌, ap, subst, arith, append_assoc, append-nil}
 use Rattle.std.proofs.lemmas.List.{append_cancel_left, map-append}
 use Rattle.zk_model.specs.Transcript.{Grant, BeginsWith, bytes_from, refuse_frame}
-use Rattle.zk_model.specs.Frames.{Frame, hello, grant, asks, replies, corrections, challenge, sums, openings, verdict, refuse, want, block, out, frame_spelling, Allows}
+use Rattle.zk_model.specs.Frames.{Frame, hello, grant, asks, replies, corrections, challenge, sums, openings, verdict, refuse, poly_sums, want, block, out, frame_spelling, Allows}
 use Rattle.zk_model.specs.declared.Expect.{Expect}
 use Rattle.zk_model.specs.declared.Side.{Side}
 use Rattle.proof_frames.proofs.Unique.{none_begins_another}
@@ -43,6 +43,7 @@ some_byte (sums both) = (_, _, refl)
 some_byte (openings macs) = (_, _, refl)
 some_byte (verdict code number) = (_, _, refl)
 some_byte (refuse code) = (_, _, refl)
+some_byte (poly_sums elements) = (_, _, refl)
 some_byte (want said) = (_, _, refl)
 some_byte (block given) = (_, _, refl)
 some_byte (out said) = (_, _, refl)
@@ -59,6 +60,7 @@ is_refusal (sums both) code xs ys same = let e : 7 ≡ 10 = ap (λ l. get_or l 0
 is_refusal (openings macs) code xs ys same = let e : 8 ≡ 10 = ap (λ l. get_or l 0 0) same in absurd (omega (arith, e))
 is_refusal (verdict code' number) code xs ys same = let e : 9 ≡ 10 = ap (λ l. get_or l 0 0) same in absurd (omega (arith, e))
 is_refusal (refuse other) code xs ys same = (other, refl)
+is_refusal (poly_sums elements) code xs ys same = let e : 7 ≡ 10 = ap (λ l. get_or l 0 0) same in absurd (omega (arith, e))
 is_refusal (want said) code xs ys same = let e : 11 ≡ 10 = ap (λ l. get_or l 0 0) same in absurd (omega (arith, e))
 is_refusal (block given) code xs ys same = let e : 12 ≡ 10 = ap (λ l. get_or l 0 0) same in absurd (omega (arith, e))
 is_refusal (out said) code xs ys same = let e : 13 ≡ 10 = ap (λ l. get_or l 0 0) same in absurd (omega (arith, e))

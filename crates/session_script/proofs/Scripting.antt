@@ -8,7 +8,7 @@ use Rattle.proof_frames.specs.declared.frame.Frame as coded
 use Rattle.proof_frames.specs.Frames.{frame_value}
 use Rattle.zk_model.specs.declared.limits.TheConstants.{MAX_PAYLOAD}
 use Rattle.zk_model.specs.Transcript.{Grant, same_side}
-use Rattle.zk_model.specs.Frames.{Frame, hello, grant, asks, replies, corrections, challenge, sums, openings, verdict, refuse, want, block, out, frame_spelling, Allows}
+use Rattle.zk_model.specs.Frames.{Frame, hello, grant, asks, replies, corrections, challenge, sums, openings, verdict, refuse, poly_sums, want, block, out, frame_spelling, Allows}
 use Rattle.zk_model.specs.declared.Expect.{Expect}
 use Rattle.zk_model.specs.declared.Expect.TheVariants as expect
 use Rattle.zk_model.specs.declared.Side.{Side}
@@ -76,6 +76,8 @@ allowed_side expect.Challenge frame allowed = ap said_by allowed.1
 allowed_side (expect.Sums sections) frame allowed = ap said_by allowed.1
 allowed_side (expect.Openings count) frame allowed = ap said_by allowed.1
 allowed_side expect.Verdict frame allowed = ap said_by allowed.2
+allowed_side (expect.PolySums count) frame allowed = ap said_by allowed.1
+allowed_side expect.PolyVerdict frame allowed = ap said_by allowed.2
 allowed_side expect.Want frame allowed = ap said_by allowed.1
 allowed_side expect.Block frame (inl allowed) = ap said_by allowed.1
 allowed_side expect.Block frame (inr allowed) = ap said_by allowed.1
@@ -91,6 +93,7 @@ granting (sums both) given is = cc
 granting (openings macs) given is = cc
 granting (verdict code number) given is = cc
 granting (refuse code) given is = cc
+granting (poly_sums elements) given is = cc
 granting (want said) given is = cc
 granting (block other) given is = cc
 granting (out said) given is = cc
@@ -123,6 +126,8 @@ fewer place rest new frame allowed few = by_after place rest new (after_in frame
     at (expect.Sums sections) allowed = inr (ap after_in allowed.1)
     at (expect.Openings count) allowed = inr (ap after_in allowed.1)
     at expect.Verdict allowed = inr (ap after_in allowed.2)
+    at (expect.PolySums count) allowed = inr (ap after_in allowed.1)
+    at expect.PolyVerdict allowed = inr (ap after_in allowed.2)
     at expect.Want allowed = inr (ap after_in allowed.1)
     at expect.Block (inl allowed) = inr (ap after_in allowed.1)
     at expect.Block (inr allowed) = inr (ap after_in allowed.1)

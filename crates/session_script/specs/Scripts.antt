@@ -2,7 +2,7 @@
 -- of such an end over a link leaves.
 use Rattle.std.specs.Prelude.{◌≡◌, ◌⊎◌, ℕ, ◌+◌, ◌^◌, ◌≤◌, if◌then◌else◌, Option, Some, None, List, [], ◌∷◌, ◌++◌, flat_map, length}
 use Rattle.zk_model.specs.Transcript.{Grant, bytes_from, same_side}
-use Rattle.zk_model.specs.Frames.{Frame, hello, grant, asks, replies, corrections, challenge, sums, openings, verdict, refuse, want, block, out, frame_spelling, Allows}
+use Rattle.zk_model.specs.Frames.{Frame, hello, grant, asks, replies, corrections, challenge, sums, openings, verdict, refuse, poly_sums, want, block, out, frame_spelling, Allows}
 use Rattle.zk_model.specs.declared.Expect.{Expect}
 use Rattle.zk_model.specs.declared.Expect.TheVariants as expect
 use Rattle.zk_model.specs.declared.Side.{Side}
@@ -33,6 +33,8 @@ side_at expect.Challenge = Verifier
 side_at (expect.Sums sections) = Prover
 side_at (expect.Openings count) = Prover
 side_at expect.Verdict = Verifier
+side_at (expect.PolySums count) = Prover
+side_at expect.PolyVerdict = Verifier
 side_at expect.Want = Prover
 side_at expect.Block = Verifier
 
@@ -48,6 +50,7 @@ said_by (sums both) = Prover
 said_by (openings macs) = Prover
 said_by (verdict code number) = Verifier
 said_by (refuse code) = Verifier
+said_by (poly_sums elements) = Prover
 said_by (want said) = Prover
 said_by (block given) = Verifier
 said_by (out said) = Verifier
@@ -75,6 +78,7 @@ after_in (sums both) = Rest
 after_in (openings macs) = Rest
 after_in (verdict code number) = Rest
 after_in (refuse code) = Nothing
+after_in (poly_sums elements) = Rest
 after_in (want said) = Rest
 after_in (block given) = Rest
 after_in (out said) = Rest

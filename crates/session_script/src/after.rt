@@ -34,6 +34,7 @@ pub fn side_of(place: Expect) -> Side
         | Expect::Reply { .. }
         | Expect::Challenge
         | Expect::Verdict
+        | Expect::PolyVerdict
         | Expect::Block => { Side::Verifier }
         _ => Side::Prover,
     }

@@ -6,7 +6,7 @@ use Rattle.zk_model.specs.Program.{Program, section_count}
 use Rattle.zk_model.specs.Statement.{Statement}
 use Rattle.zk_model.specs.Files.{ProverFile, rounds_of}
 use Rattle.zk_model.specs.Transcript.{Hello, Grant, TreeAsk, TreeReply, Round, Setup, Transcript, IsHelloFor, IsGrant, BeginsWith, spelling}
-use Rattle.zk_model.specs.Frames.{Frame, hello, grant, asks, replies, corrections, challenge, sums, openings, verdict, refuse, want, block, out, frame_spelling, Allows, IsWhole, CanGoOn, IsFirstBad}
+use Rattle.zk_model.specs.Frames.{Frame, hello, grant, asks, replies, corrections, challenge, sums, openings, verdict, refuse, poly_sums, want, block, out, frame_spelling, Allows, IsWhole, CanGoOn, IsFirstBad}
 use Rattle.zk_model.specs.Replies.{unit_reply}
 use Rattle.zk_model.specs.View.{IsVerdict}
 use Rattle.zk_model.specs.ServedVerifier.{VerifierTask, challenge_coin, IsServed}
@@ -118,7 +118,7 @@ pub record IsVerdictAfter (task : VerifierTask) (before : List Frame) (code numb
 
 -- What the files, the statement and the earlier frames give: a hello for the statement, a grant of as many units as it takes, the
 -- verifier's replies, its coin and its verdict. What the prover chooses may be anything, and so may a refusal. What
--- nodes and a broker send is of no session.
+-- nodes and a broker send is of no session, and sums of constraints are of none about a circuit.
 abbrev pub IsGiven : VerifierTask → List Frame → Frame → Type 0
 IsGiven task before (hello said) = IsHelloFor task.file.id task.statement said
 IsGiven task before (grant given) = IsGrant task.file.params task.statement.program given
@@ -130,6 +130,7 @@ IsGiven task before (sums both) = Unit {0}
 IsGiven task before (openings macs) = Unit {0}
 IsGiven task before (verdict code number) = IsVerdictAfter task before code number
 IsGiven task before (refuse code) = Unit {0}
+IsGiven task before (poly_sums elements) = ⊥
 IsGiven task before (want said) = ⊥
 IsGiven task before (block given) = ⊥
 IsGiven task before (out said) = ⊥
@@ -215,6 +216,7 @@ Declines (sums both) = ⊥
 Declines (openings macs) = ⊥
 Declines (verdict code number) = code ≢ 0
 Declines (refuse code) = Unit {0}
+Declines (poly_sums elements) = ⊥
 Declines (want said) = ⊥
 Declines (block given) = ⊥
 Declines (out said) = ⊥

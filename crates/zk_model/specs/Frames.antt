@@ -1,7 +1,7 @@
 -- Frames as values, the places of a session where they may come, and what is wrong with bytes that begin none.
 use Rattle.std.specs.Prelude.{◌≡◌, ◌⊎◌, None, ℕ, ◌+◌, ◌*◌, ◌-◌, ◌^◌, ◌<◌, ◌≤◌, if◌then◌else◌, nat_eq, List, [], ◌∷◌, length, take, All}
 use Rattle.zk_model.specs.Field.{IsElement}
-use Rattle.zk_model.specs.Transcript.{Hello, Grant, TreeAsk, TreeReply, IsHello, IsTreeAsk, IsTreeReply, BeginsWith, hello_frame, grant_frame, ask_frame, reply_frame, corrections_frame, challenge_frame, sums_frame, openings_frame, verdict_frame, refuse_frame}
+use Rattle.zk_model.specs.Transcript.{Hello, Grant, TreeAsk, TreeReply, IsHello, IsTreeAsk, IsTreeReply, BeginsWith, hello_frame, grant_frame, ask_frame, reply_frame, corrections_frame, challenge_frame, sums_frame, openings_frame, poly_sums_frame, verdict_frame, refuse_frame}
 use Rattle.zk_model.specs.Messages.{want_frame, block_frame, out_frame, FitsWant, FitsBlock, FitsOut}
 use Rattle.zk_model.specs.declared.Expect.{Expect}
 use Rattle.zk_model.specs.declared.Expect.TheVariants as expect
@@ -26,6 +26,7 @@ pub data Frame : Type 0 where
   openings : List ℕ → Frame
   verdict : ℕ → ℕ → Frame
   refuse : ℕ → Frame
+  poly_sums : List ℕ → Frame
   want : Want → Frame
   block : Block → Frame
   out : Out → Frame
@@ -42,6 +43,7 @@ frame_spelling (sums both) = sums_frame both
 frame_spelling (openings macs) = openings_frame macs
 frame_spelling (verdict code number) = verdict_frame code number
 frame_spelling (refuse code) = refuse_frame code
+frame_spelling (poly_sums elements) = poly_sums_frame elements
 frame_spelling (want said) = want_frame said
 frame_spelling (block given) = block_frame given
 frame_spelling (out said) = out_frame said
@@ -79,13 +81,19 @@ pub record FitsVerdict (code number : ℕ) : Type 0 where
   pub said : code ≤ 2
   pub numbered : number < 2 ^ 32
 
+-- about constraints, code 0 and any number of 32 bits, or code 1 and number 0
+pub record FitsPolyVerdict (code number : ℕ) : Type 0 where
+  pub said : code ≤ 1
+  pub numbered : number < 2 ^ 32
+  pub zero : code ≡ 1 → number ≡ 0
+
 -- a code of 1 to 4
 pub record FitsRefusal (code : ℕ) : Type 0 where
   pub least : 1 ≤ code
   pub most : code ≤ 4
 
 -- The frames that a place allows: a greeting whatever it names, or one without a digest of public bits; a grant of any numbers or a
--- refusal in its place; asks or replies for so many trees of one height; so many elements; a verdict; a want of a node; and a block of any
+-- refusal in its place; asks or replies for so many trees of one height; so many elements; a verdict, of a circuit or of constraints, and the sums of these; a want of a node; and a block of any
 -- numbers, or in its place that no units are left.
 abbrev pub Allows : Expect → Frame → Type 0
 Allows expect.Hello frame = (said : Hello) × (frame ≡ hello said) × IsHello said
@@ -102,6 +110,9 @@ Allows expect.Challenge frame = (element : ℕ) × (frame ≡ challenge element)
 Allows (expect.Sums sections) frame = (both : List (ℕ × ℕ)) × (frame ≡ sums both) × AreSums sections both
 Allows (expect.Openings count) frame = (macs : List ℕ) × (frame ≡ openings macs) × AreElements count macs
 Allows expect.Verdict frame = (code : ℕ) × (number : ℕ) × (frame ≡ verdict code number) × FitsVerdict code number
+Allows (expect.PolySums count) frame = (elements : List ℕ) × (frame ≡ poly_sums elements) × AreElements count elements
+Allows expect.PolyVerdict frame =
+    (code : ℕ) × (number : ℕ) × (frame ≡ verdict code number) × FitsPolyVerdict code number
 Allows expect.Want frame = (said : Want) × (frame ≡ want said) × FitsWant said
 Allows expect.Block frame =
     ((given : Block) × (frame ≡ block given) × FitsBlock given)
@@ -147,6 +158,8 @@ frame_length expect.Challenge bytes = elements_length 1
 frame_length (expect.Sums sections) bytes = elements_length (2 * sections)
 frame_length (expect.Openings count) bytes = elements_length count
 frame_length expect.Verdict bytes = 10
+frame_length (expect.PolySums count) bytes = elements_length count
+frame_length expect.PolyVerdict bytes = 10
 frame_length expect.Want bytes = 21
 frame_length expect.Block [] = 1
 frame_length expect.Block (first ∷ bytes) = if nat_eq first 13 then 25 else 29
@@ -169,6 +182,8 @@ expected_kind expect.Challenge bytes = kind.Challenge
 expected_kind (expect.Sums sections) bytes = kind.Sums
 expected_kind (expect.Openings count) bytes = kind.Openings
 expected_kind expect.Verdict bytes = kind.Verdict
+expected_kind (expect.PolySums count) bytes = kind.Sums
+expected_kind expect.PolyVerdict bytes = kind.Verdict
 expected_kind expect.Want bytes = kind.Want
 expected_kind expect.Block [] = kind.Block
 expected_kind expect.Block (first ∷ bytes) = if nat_eq first 13 then kind.Out else kind.Block

@@ -18,3 +18,8 @@ encode_elements-requires-in-Openings c =
 pub encode_sums-requires : goal.encode_sums-requires
 encode_sums-requires c =
     short_sums (frame_value c.args.frame.now) c.in-Sums.sums.items c.deref-in-Sums.result.now c.requires (ap frame_value c.in-Sums.is) c.deref-in-Sums.ensures.value
+
+pub encode_elements-requires-in-PolySums : goal.encode_elements-requires-in-PolySums
+encode_elements-requires-in-PolySums c =
+    short_elements (frame_value c.args.frame.now) kind.Sums c.in-PolySums.sums.items c.deref-in-PolySums.result.now c.requires
+    (ap (λ f. frame_spelling (frame_value f)) c.in-PolySums.is) c.deref-in-PolySums.ensures.value

@@ -15,7 +15,7 @@ use Rattle.proof_frames.specs.Rows.{row_of}
 use Rattle.proof_frames.proofs.Fields.{one_item}
 use Rattle.proof_frames.proofs.Finished.{HoldsWhole, raw_payload, raw_finished, list_finished, elements_held}
 use Rattle.proof_frames.proofs.Sums.{flattened_bytes}
-use Rattle.proof_frames.proofs.Words.{Says, hello_said, short_hello_said, grant_said, verdict_said, want_said, block_said, are_sums}
+use Rattle.proof_frames.proofs.Words.{Says, hello_said, short_hello_said, grant_said, verdict_said, poly_verdict_said, want_said, block_said, are_sums}
 use Rattle.proof_frames.proofs.whole.whole_frame.Goals.{Start}
 use Rattle.proof_frames.proofs.whole.whole_frame.Goals as goal
 
@@ -46,6 +46,16 @@ pub returns-in-Verdict : goal.returns-in-Verdict
 returns-in-Verdict c =
     raw_finished c.args.place expect.Verdict c.args.held.now c.payload-in-Verdict.result.now _ c.in-Verdict.is refl (done (goal.at.returns-in-Verdict c).Start)
     c.payload-in-Verdict.ensures (λ has. rw c.verdict_of.ensures (verdict_said _ has.fits))
+
+pub returns-in-PolyVerdict : goal.returns-in-PolyVerdict
+returns-in-PolyVerdict c =
+    raw_finished c.args.place expect.PolyVerdict c.args.held.now c.payload-in-PolyVerdict.result.now _ c.in-PolyVerdict.is refl (done (goal.at.returns-in-PolyVerdict c).Start)
+    c.payload-in-PolyVerdict.ensures (λ has. rw c.verdict_of-in-PolyVerdict.ensures (poly_verdict_said _ has.fits))
+
+pub returns-in-PolySums : goal.returns-in-PolySums
+returns-in-PolySums c =
+    list_finished c.args.place (expect.PolySums c.in-PolySums.count) c.args.held.now c.in-PolySums.count _ c.in-PolySums.is refl
+    (done (goal.at.returns-in-PolySums c).Start) (λ are. rw c.give_elements-in-PolySums.ensures (record { allowed = (_, refl, are); spelled = refl }))
 
 pub returns-in-Want : goal.returns-in-Want
 returns-in-Want c =

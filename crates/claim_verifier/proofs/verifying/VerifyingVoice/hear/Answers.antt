@@ -36,4 +36,4 @@ pub unreachable-requires : goal.unreachable-requires
 unreachable-requires g c =
     heard_coded (grants g) (g.C.Claim.claim c.args.self.now.claim.now) c.args.self.now.file.now c.args.self.now.section
     c.has_places.ensures c.total-total.ensures.file c.replies_are_in_range.ensures _ c.args._place c.requires.reached.0 c.requires.reached.1 c.args.frame
-    c.requires.peers c.requires.allowed c.in_default.not-Hello c.in_default.not-ExtendAsk c.in_default.not-Corrections c.in_default.not-Sums c.in_default.not-Openings
+    c.requires.peers c.requires.allowed c.in_default.not-Hello c.in_default.not-ExtendAsk c.in_default.not-Corrections c.in_default.not-Sums c.in_default.not-Openings c.in_default.not-PolySums

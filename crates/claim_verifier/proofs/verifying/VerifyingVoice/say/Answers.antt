@@ -116,4 +116,4 @@ pub unreachable-requires : goal.unreachable-requires
 unreachable-requires g c =
     said_is (grants g) (g.C.Claim.claim c.args.self.now.claim.now) c.args.self.now.file.now c.args.self.now.section
     c.has_places.ensures c.total-total.ensures.file c.replies_are_in_range.ensures _ c.args.place c.requires.reached.0 c.requires.reached.1 c.requires.own
-    c.in_default.not-Grant c.in_default.not-Reply c.in_default.not-Challenge c.in_default.not-Verdict
+    c.in_default.not-Grant c.in_default.not-Reply c.in_default.not-Challenge c.in_default.not-Verdict c.in_default.not-PolyVerdict
