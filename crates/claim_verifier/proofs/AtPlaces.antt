@@ -3,7 +3,7 @@ use Rattle.std.proofs.Common.{◌≡◌, ◌⊎◌, ℕ, inl, inr, Some, None, L
 use Rattle.std.specs.Prelude.{All}
 use Rattle.std.proofs.lemmas.List.Elements.{All-head}
 use Rattle.zk_model.specs.Files.{VerifierFile, IsVerifierFile}
-use Rattle.zk_model.specs.Frames.{Frame, hello, asks, replies, corrections, sums, openings, Allows, AreAsks, AreReplies}
+use Rattle.zk_model.specs.Frames.{Frame, hello, asks, replies, corrections, sums, openings, poly_sums, Allows, AreAsks, AreReplies}
 use Rattle.zk_model.specs.Transcript.{Hello, Grant, TreeAsk, TreeReply}
 use Rattle.zk_model.specs.declared.Expect.{Expect}
 use Rattle.zk_model.specs.declared.Expect.TheVariants as expect
@@ -30,9 +30,14 @@ verdict_side expect.PolyVerdict is = refl
 verdict_side place is = absurd is
 
 verdict_no : (place : Expect) → IsVerdictPlace place → (place ≡ expect.Verdict → ⊥) → (place ≡ expect.PolyVerdict → ⊥) → ⊥
-verdict_no expect.Verdict is no no_poly = no refl
-verdict_no expect.PolyVerdict is no no_poly = no_poly refl
-verdict_no place is no no_poly = is
+verdict_no expect.Verdict is no_verdict no_poly = no_verdict refl
+verdict_no expect.PolyVerdict is no_verdict no_poly = no_poly refl
+verdict_no place is no_verdict no_poly = is
+
+-- one of the two places of a verdict
+pub verdict_there : (place : Expect) → (place ≡ expect.Verdict) ⊎ (place ≡ expect.PolyVerdict) → IsVerdictPlace place
+verdict_there place (inl is) = subst IsVerdictPlace (sym is) tt
+verdict_there place (inr is) = subst IsVerdictPlace (sym is) tt
 
 first_is : (place other : Expect) (rest others : List Expect) → place ∷ rest ≡ other ∷ others → place ≡ other
 first_is place other rest others is = cc
@@ -407,3 +412,7 @@ pub due_as : (claim : Claim) (file : VerifierFile) (section_length : ℕ) (given
 due_as claim file section_length given same heard is due =
     subst (λ (q : Grant). IsToJudge claim file q.section_length q heard.round (exchange_in file q heard)) is
     (record { within = due.within; count = due.count ∙ ap (units_of claim file) (sym due.section); section = refl; over = due.over; exchange_is = due.exchange_is })
+
+-- a verdict that stands at the claim's place stands at this one
+pub verdict_allowed : (claim : Claim) (place : Expect) (frame : Frame) → place ≡ claim.verdict → Allows claim.verdict frame → Allows place frame
+verdict_allowed claim place frame is allowed = subst (λ p. Allows p frame) (sym is) allowed

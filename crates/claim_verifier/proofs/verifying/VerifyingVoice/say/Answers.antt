@@ -3,12 +3,13 @@ use Rattle.std.specs.Prelude.{IfSome, IsSome, IsSomeAnd, List, map}
 use Rattle.proof_frames.specs.Frames.{frame_value}
 use Rattle.proof_frames.specs.declared.frame.Frame.{Frame}
 use Rattle.zk_model.specs.ServedVerifier.{challenge_coin}
+use Rattle.zk_model.specs.Frames.{Allows}
 use Rattle.zk_model.specs.Transcript.{Grant}
 use Rattle.zk_model.specs.declared.limits.TheConstants.{MAX_DEALT_UNITS}
 use Rattle.session_verifier.specs.Serving.{Grants, grants_of}
 use Rattle.claim_verifier.specs.Hearing.{Heard}
 use Rattle.claim_verifier.specs.Rounds.{AreKeysFor, IsToJudge, round_stage}
-use Rattle.claim_verifier.proofs.AtPlaces.{grant_at, reply_at, challenge_at, verdict_at, said_is, within_dealt, within_total, unkeyed, same_reply, some_same, due_as}
+use Rattle.claim_verifier.proofs.AtPlaces.{grant_at, reply_at, challenge_at, verdict_at, said_is, within_dealt, within_total, unkeyed, same_reply, some_same, due_as, verdict_there, verdict_allowed}
 use Rattle.claim_verifier.proofs.verifying.VerifyingVoice.say.Given.{Over}
 use Rattle.claim_verifier.proofs.verifying.VerifyingVoice.say.Goals as goal
 
@@ -81,20 +82,20 @@ challenge-requires g c =
 pub the_grant-given-requires-in-Verdict : goal.the_grant-given-requires-in-Verdict
 the_grant-given-requires-in-Verdict g c =
     let at = verdict_at (grants g) (g.C.Claim.claim c.args.self.now.claim.now) c.args.self.now.file.now c.args.self.now.section
-    c.has_places.ensures c.total-total.ensures.file c.replies_are_in_range.ensures _ c.args.place c.requires.reached.0 c.requires.reached.1 c.in-Verdict.is in
+    c.has_places.ensures c.total-total.ensures.file c.replies_are_in_range.ensures _ c.args.place c.requires.reached.0 c.requires.reached.1 (verdict_there c.args.place c.in-Verdict.is) in
     subst IsSome (sym at.1) refl
 
 pub judge-requires-clause-some : goal.judge-requires-clause-some
 judge-requires-clause-some g c κs inside =
     let at = verdict_at (grants g) (g.C.Claim.claim c.args.self.now.claim.now) c.args.self.now.file.now c.args.self.now.section
-    c.has_places.ensures c.total-total.ensures.file c.replies_are_in_range.ensures _ c.args.place c.requires.reached.0 c.requires.reached.1 c.in-Verdict.is in
+    c.has_places.ensures c.total-total.ensures.file c.replies_are_in_range.ensures _ c.args.place c.requires.reached.0 c.requires.reached.1 (verdict_there c.args.place c.in-Verdict.is) in
     let same : at.0 ≡ c.the_grant-given-in-Verdict.result = some_same _ _ (sym at.1 ∙ c.the_grant-given-in-Verdict.ensures) in
     subst (λ (q : Grant). 1 ≤ q.section_length) same (subst (λ (n : ℕ). 1 ≤ n) (sym at.2.section) c.args.self.now.some)
 
 pub judge-requires-clause-due : goal.judge-requires-clause-due
 judge-requires-clause-due g c κs inside =
     let at = verdict_at (grants g) (g.C.Claim.claim c.args.self.now.claim.now) c.args.self.now.file.now c.args.self.now.section
-    c.has_places.ensures c.total-total.ensures.file c.replies_are_in_range.ensures _ c.args.place c.requires.reached.0 c.requires.reached.1 c.in-Verdict.is in
+    c.has_places.ensures c.total-total.ensures.file c.replies_are_in_range.ensures _ c.args.place c.requires.reached.0 c.requires.reached.1 (verdict_there c.args.place c.in-Verdict.is) in
     let claim = g.C.Claim.claim c.args.self.now.claim.now in
     let same : at.0 ≡ c.the_grant-given-in-Verdict.result = some_same _ _ (sym at.1 ∙ c.the_grant-given-in-Verdict.ensures) in
     subst (λ (q : List ℕ × List Frame). IsToJudge claim c.args.self.now.file.now c.the_grant-given-in-Verdict.result.section_length
@@ -111,6 +112,13 @@ judge-requires-clause-due g c κs inside =
       answers = map frame_value c.args.self.now.answers.items;
       judged = c.args.self.now.judged;
     }) same at.2)
+
+pub returns-in_ok-judgement-in-Verdict-clause-allowed : goal.returns-in_ok-judgement-in-Verdict-clause-allowed
+returns-in_ok-judgement-in-Verdict-clause-allowed g c =
+    let at = verdict_at (grants g) (g.C.Claim.claim c.args.self.now.claim.now) c.args.self.now.file.now c.args.self.now.section
+    c.has_places.ensures c.total-total.ensures.file c.replies_are_in_range.ensures _ c.args.place c.requires.reached.0 c.requires.reached.1 (verdict_there c.args.place c.in-Verdict.is) in
+    verdict_allowed (g.C.Claim.claim c.args.self.now.claim.now) c.args.place _ at.3
+    (subst (Allows (g.C.Claim.claim c.args.self.now.claim.now).verdict) (sym c.verdict_frame.ensures) c.in_ok-judgement-in-Verdict.ensures.placed)
 
 pub unreachable-requires : goal.unreachable-requires
 unreachable-requires g c =

@@ -1,0 +1,5 @@
+pub mod Answering
+pub mod Judged
+pub mod Ends
+pub mod Findings
+pub mod Shown
