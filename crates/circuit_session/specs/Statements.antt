@@ -109,6 +109,7 @@ statement_claim statement = record {
   masks = section_count statement.program;
   answers = λ section_length. expect.Sums (section_count statement.program section_length)
       ∷ expect.Openings (length statement.program.opened) ∷ [];
+  verdict = expect.Verdict;
   judges = IsJudgedBy statement;
   shows = ShowsFindings statement;
 }

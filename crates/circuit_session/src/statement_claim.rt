@@ -54,6 +54,10 @@ impl<'a> Claim for StatementClaim<'a> {
         Ok(places)
     }
 
+    fn verdict_place(&self) -> Expect {
+        Expect::Verdict
+    }
+
     fn judge<R: Threads + Sync>(
         &self,
         _rt: &R,

@@ -1,9 +1,9 @@
 -- What a prover knows at the place that comes next.
-use Rattle.std.proofs.Common.{◌≡◌, ◌⊎◌, ℕ, zero, suc, inl, inr, Some, List, [], ◌∷◌, ◌++◌, length, ◌+◌, ◌-◌, ◌*◌, ◌≤◌, refl, sym, ◌∙◌, ap, subst, arith}
+use Rattle.std.proofs.Common.{◌≡◌, ℕ, zero, suc, inl, inr, Some, List, [], ◌∷◌, ◌++◌, length, ◌+◌, ◌-◌, ◌*◌, ◌≤◌, refl, sym, ◌∙◌, ap, subst, arith}
 use Rattle.std.specs.Prelude.{All}
 use Rattle.std.proofs.lemmas.List.Elements.{All-head}
 use Rattle.zk_model.specs.Files.{ProverFile, IsProverFile}
-use Rattle.zk_model.specs.Frames.{Frame, Allows, AreAsks, AreReplies}
+use Rattle.zk_model.specs.Frames.{Frame, Allows, AreAsks}
 use Rattle.zk_model.specs.Transcript.{Grant, TreeAsk}
 use Rattle.zk_model.specs.declared.Expect.{Expect}
 use Rattle.zk_model.specs.declared.Expect.TheVariants as expect
@@ -11,14 +11,14 @@ use Rattle.zk_model.specs.declared.Side.TheVariants.{Prover, Verifier}
 use Rattle.session_laws.specs.Rounds.{AsksAreInRange}
 use Rattle.session_prover.specs.Stages.{ClaimantTells}
 use Rattle.session_script.specs.Scripts.{stage_of, side_at, Reached}
-use Rattle.session_claim.specs.Claims.{HasPlaces, IsVerdictPlace, AreAnswers, AllowsEach, claim_needs}
+use Rattle.session_claim.specs.Claims.{Claim, HasPlaces, IsVerdictPlace, AreAnswers, AllowsEach, claim_needs}
 use Rattle.session_claim.specs.Script.{claim_places}
-use Rattle.zk_model.specs.Frames.{asks, sums, openings, poly_sums}
+use Rattle.zk_model.specs.Frames.{asks}
 use Rattle.zk_model.specs.Files.{correlations_per_unit}
 use Rattle.zk_model.specs.Mac.{Pair}
 use Rattle.zk_laws.proofs.Views.{gives_some, parts_hold}
 use Rattle.claim_prover.specs.Telling.{Knowledge, Told, Known, SuitsClaim, known_of, IsUntold, ProverPasses, prover_rules}
-use Rattle.claim_prover.proofs.Due.{HasGrant, HasReplies, AtFirst, AtAsks, AtReplies, AtCorrections, AtAnswers, AtEnd, IsDue, asks_places, replies_places, asks_over, replies_over, due_at}
+use Rattle.claim_prover.proofs.Due.{HasGrant, HasReplies, AtAsks, AtReplies, AtCorrections, AtAnswers, AtEnd, IsDue, asks_places, replies_places, asks_over, replies_over, due_at}
 
 first_is : (place other : Expect) (rest others : List Expect) → place ∷ rest ≡ other ∷ others → other ≡ place
 first_is place other rest others is = cc

@@ -1,4 +1,4 @@
-use Rattle.std.proofs.Common.{◌≡◌, ◌≤◌, List, length, sym, ap, subst}
+use Rattle.std.proofs.Common.{◌≤◌, List, length, sym, subst}
 use Rattle.wire_auth.specs.Held.{items_in}
 use Rattle.zk_model.specs.Mac.{Pair}
 use Rattle.session_claim.specs.Claims.{claim_needs}

@@ -1,12 +1,10 @@
-use Rattle.std.proofs.Common.{◌≡◌, ℕ, List, ◌≤◌, ◌∷◌, [], Some, map, length, refl, sym, ◌∙◌, ap, subst}
+use Rattle.std.proofs.Common.{◌≡◌, ℕ, List, ◌≤◌, length, refl, sym, ◌∙◌, ap, subst}
 use Rattle.std.specs.Prelude.{IsSome}
-use Rattle.zk_model.specs.Frames.{Allows}
 use Rattle.zk_model.specs.Mac.{Pair}
 use Rattle.zk_model.specs.Transcript.{Grant}
-use Rattle.proof_frames.specs.Frames.{frame_value}
 use Rattle.session_prover.specs.Stages.{ClaimantTells, claimant_tells}
 use Rattle.session_claim.specs.Claims.{claim_needs}
-use Rattle.claim_prover.specs.Telling.{Knowledge, SuitsClaim, knowledge_of}
+use Rattle.claim_prover.specs.Telling.{Knowledge, knowledge_of}
 use Rattle.claim_prover.proofs.AtPlaces.{knows_at, grant_at, challenge_at, some_same, hears_one}
 use Rattle.claim_prover.proofs.proving.ProvingVoice.hear.Given.{Over}
 use Rattle.claim_prover.proofs.proving.ProvingVoice.hear.Goals as goal

@@ -1,18 +1,15 @@
-use Rattle.std.proofs.Common.{◌≡◌, ℕ, List, ◌+◌, ◌≤◌, ◌∷◌, [], Some, map, length, refl, sym, ◌∙◌, ap, subst}
+use Rattle.std.proofs.Common.{◌≡◌, List, ◌+◌, ◌≤◌, length, refl, sym, ◌∙◌, ap, subst}
 use Rattle.std.proofs.Common.{Vec, Global}
 use Rattle.std.proofs.lemmas.List.{length-map}
 use Rattle.std.specs.Prelude.{IsSome, All}
 use Rattle.zk_model.specs.Frames.{AreReplies}
 use Rattle.tree_messages.specs.declared.TreeReply.{TreeReply}
 use Rattle.zk_model.specs.Frames.{Allows}
-use Rattle.zk_model.specs.Mac.{Pair}
 use Rattle.zk_model.specs.Transcript.{Grant}
-use Rattle.proof_frames.specs.Frames.{frame_value}
 use Rattle.round_fan.specs.Fans.{lists_of}
 use Rattle.zk_model.specs.Frames.{AreElements, corrections}
 use Rattle.zk_model.specs.declared.Expect.TheVariants as expect
 use Rattle.session_prover.specs.Stages.{ClaimantTells, claimant_tells}
-use Rattle.session_claim.specs.Claims.{claim_needs}
 use Rattle.claim_prover.specs.Telling.{Knowledge, SuitsClaim, knowledge_of}
 use Rattle.claim_prover.proofs.AtPlaces.{knows_at, asks_at, corrections_at, sums_at, openings_at, asks_allowed, answer_allowed, sums_pass, openings_pass, poly_sums_at, poly_sums_pass, some_same, says_one}
 use Rattle.claim_prover.proofs.proving.ProvingVoice.say.Given.{Over}
