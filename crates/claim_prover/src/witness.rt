@@ -1,6 +1,7 @@
 // What a prover knows for a claim.
 ghost use Rattle.std.specs.Prelude.{◌≡◌, ◌≤◌, length, map, All, IfOk};
 ghost use Rattle.std.specs.Thread.{IsSync};
+ghost use Rattle.zk_model.specs.Bytes.{AreBytes};
 ghost use Rattle.zk_model.specs.Frames as frames;
 ghost use Rattle.zk_model.specs.Frames.{Allows, AreElements};
 ghost use Rattle.zk_model.specs.HonestProver.{honest_corrections};
@@ -31,6 +32,7 @@ pub trait Witness: Claim {
 
     /// The hello that it says, one for its claim.
     fn hello(&self, id: [u8; 32]) -> Hello
+        requires octets { AreBytes 32 id }
         ensures said { result ≡ said self.now id }
         ensures greets { (Self.claim self.now).greets id result }
         ensures allowed { Allows (Self.claim self.now).greeting (frames.hello result) };

@@ -1,14 +1,12 @@
 -- What a check that holds shows of the pairs that the keys fit.
 use Rattle.std.proofs.Common.{◌≡◌, ℕ, zero, suc, ◌+◌, ◌-◌, ◌≤◌, List, [], ◌∷◌, map, take, drop, length, refl, sym, ◌∙◌, ap, subst, arith}
 use Rattle.std.proofs.lemmas.List.{length-map, length-take-le, length-drop}
-use Rattle.zk_model.specs.Field.{IsElement, ◌+ₚ◌, ◌*ₚ◌}
-use Rattle.zk_model.specs.Frames.{Frame, poly_sums, AreElements}
-use Rattle.zk_model.specs.Mac.{Pair, fitting_key, AreKeysOf, corrected_pair, corrected_key, corrected_pairs, corrected_keys}
+use Rattle.zk_model.specs.Frames.{Frame, poly_sums}
+use Rattle.zk_model.specs.Mac.{Pair, fitting_key, corrected_pairs, corrected_keys}
 use Rattle.poly_model.specs.Constraints.{Constraints, degree}
-use Rattle.poly_model.specs.ConstraintCheck.{Holds, Shows}
+use Rattle.poly_model.specs.ConstraintCheck.{Holds}
 use Rattle.poly_laws.specs.Laws.{CheckShows}
-use Rattle.session_core.specs.declared.judgement.Judgement.TheVariants.{Accepted}
-use Rattle.session_claim.specs.Claims.{Exchange, AllowsEach, IsExchange, IsSound, claim_needs}
+use Rattle.session_claim.specs.Claims.{Exchange, AllowsEach, IsExchange, IsSound}
 use Rattle.mersenne_field.proofs.FieldLaws.{corrected_key-fitting}
 use Rattle.poly_session.specs.PolyClaims.{AnswersBy, masks_of, poly_claim}
 
@@ -64,5 +62,5 @@ poly_sound constraints digest least shows key pairs keys exchange is fit enough 
       sums,
       judged.1,
       shows constraints (corrected_pairs pairs exchange.corrections) (masks_of constraints pairs) exchange.challenge key sums masks
-      (sums_counted constraints digest exchange sums whole judged.1) holds,
+          (sums_counted constraints digest exchange sums whole judged.1) holds,
     )

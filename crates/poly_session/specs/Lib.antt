@@ -1,1 +1,2 @@
 pub mod PolyClaims
+pub mod PolyWitnesses

@@ -1,8 +1,8 @@
 -- Constraints as what a session proves: values that meet all of them.
-use Rattle.std.specs.Prelude.{◌≡◌, ◌≢◌, ◌-◌, ℕ, Option, None, List, [], ◌∷◌, take, drop}
+use Rattle.std.specs.Prelude.{◌≡◌, ◌≢◌, ◌-◌, ℕ, None, List, [], ◌∷◌, take, drop}
 use Rattle.sha2.specs.Sha256.{sha256}
 use Rattle.zk_model.specs.Frames.{poly_sums}
-use Rattle.zk_model.specs.Mac.{Pair, corrected_pairs, corrected_keys}
+use Rattle.zk_model.specs.Mac.{corrected_pairs, corrected_keys}
 use Rattle.zk_model.specs.Transcript.{Hello}
 use Rattle.zk_model.specs.declared.Expect.TheVariants as expect
 use Rattle.poly_model.specs.Constraints.{Constraints, degree}

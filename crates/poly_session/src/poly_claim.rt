@@ -25,13 +25,13 @@ use std::thread::Threads;
 use zk_model::Expect;
 
 /// The version of a hello about constraints.
-const POLY_VERSION: u8 = 3;
+pub(crate) const POLY_VERSION: u8 = 3;
 
 /// That values meet all constraints of a list, which a hello names by the digest of its text.
 #[derive(Debug, Drop)]
 pub struct PolyClaim<'a> {
-    polys: &'a Polys,
-    digest: [u8; 32],
+    pub(crate) polys: &'a Polys,
+    pub(crate) digest: [u8; 32],
     ghost few: { polys.now.variables ≤ MAX_VARIABLES },
 }
 
