@@ -3,3 +3,4 @@ pub mod Judged
 pub mod Ends
 pub mod Findings
 pub mod Shown
+pub mod SaidFits

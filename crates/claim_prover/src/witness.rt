@@ -37,10 +37,6 @@ pub trait Witness: Claim {
         ensures greets { (Self.claim self.now).greets id result }
         ensures allowed { Allows (Self.claim self.now).greeting (frames.hello result) };
 
-    /// That it commits as many elements as its claim says.
-    fn has_given(&self)
-        ensures { AreElements (Self.claim self.now).givens (given self.now) };
-
     /// The corrections that make the values of the first pairs those that it commits.
     ///
     /// # Errors

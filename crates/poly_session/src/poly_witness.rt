@@ -1,7 +1,6 @@
 // What a prover knows for constraints.
-ghost use Rattle.std.specs.Prelude.{◌≡◌, ◌+◌, ◌-◌, ◌≤◌, length, All, IfOk};
+ghost use Rattle.std.specs.Prelude.{◌≡◌, ◌+◌, ◌-◌, ◌≤◌, length, IfOk};
 ghost use Rattle.zk_model.specs.Bytes.{AreBytes};
-ghost use Rattle.zk_model.specs.Field.{IsElement};
 ghost use Rattle.zk_model.specs.Frames.{AreElements};
 ghost use Rattle.zk_model.specs.HonestProver.{honest_corrections};
 ghost use Rattle.zk_model.specs.Transcript.{IsHello};
@@ -46,15 +45,6 @@ fn hello_of(id: [u8; 32], digest: [u8; 32]) -> Hello
         outputs: Sha256::digest(&[]),
         version: POLY_VERSION,
         public: None,
-    }
-}
-
-/// That these are elements.
-fn are_elements(values: &[Fe])
-    ensures { All IsElement values.now }
-{
-    for element in values {
-        let _word = element.value();
     }
 }
 
@@ -193,10 +183,6 @@ impl<'a> Witness for PolyWitness<'a> {
 
     fn hello(&self, id: [u8; 32]) -> Hello {
         hello_of(id, self.claim.digest)
-    }
-
-    fn has_given(&self) {
-        are_elements(self.values);
     }
 
     fn corrections(&self, alloc: Global, pairs: &[Pair]) -> Result<Vec<Fe>, AllocError> {
