@@ -1,5 +1,5 @@
 // A verifier's session about a statement, over a line.
-ghost use Rattle.std.specs.Prelude.{◌≡◌, ◌⊎◌, ◌≤◌, None};
+ghost use Rattle.std.specs.Prelude.{◌≡◌, ◌⊎◌, ◌≤◌, None, IsTrue};
 ghost use Rattle.std.specs.Thread.{IsSync};
 ghost use Rattle.zk_model.specs.declared.Side.TheVariants.{Verifier};
 ghost use Rattle.zk_model.specs.declared.limits.TheConstants.{MAX_UNITS};
@@ -53,6 +53,8 @@ pub fn verify_statement<R: Threads + Sync, G: Grantor, L: Link>(
         grantor.old grantor.new (snapshot_of line.old) (snapshot_of line.new) }
     ensures exact { EndsAccepted (claim_behind file.now.params (statement_claim statement.now))
         (first_places (statement_claim statement.now)) line.new.log → result ≡ Judged Accepted }
+    ensures side { line.new.side ≡ line.old.side }
+    ensures open_still { IsTrue line.new.is_open }
 {
     let claim = StatementClaim { statement };
     verify_claim(rt, alloc, &claim, file, section, grantor, line)

@@ -1,5 +1,5 @@
 // A prover's session about a claim, over a line.
-ghost use Rattle.std.specs.Prelude.{◌≡◌, ◌⊎◌, ◌∷◌, [], ◌≤◌, None, All, IfOk};
+ghost use Rattle.std.specs.Prelude.{◌≡◌, ◌⊎◌, ◌∷◌, [], ◌≤◌, None, All, IfOk, IsTrue};
 ghost use Rattle.std.specs.Thread.{IsSync};
 ghost use Rattle.zk_model.specs.declared.Expect.TheVariants as expect;
 ghost use Rattle.zk_model.specs.declared.Side.TheVariants.{Prover};
@@ -66,6 +66,8 @@ pub fn prove_claim<'a, R: Threads + Sync, O: Claimant, W: Witness, L: Link>(
         ⊎ ProverLeaves (claimant_tells O.asked O.answer O.total O.moves)
         (knowledge_of (W.claim witness.now) (W.said witness.now) (W.given witness.now) (W.replying witness.now)) file.now claimant.old claimant.new
         result (snapshot_of line.old) (snapshot_of line.new) }
+    ensures side { line.new.side ≡ line.old.side }
+    ensures open_still { IsTrue line.new.is_open }
 {
     asks_are_in_range();
     witness.has_places();

@@ -1,5 +1,5 @@
 // A verifier's session about a claim, over a line.
-ghost use Rattle.std.specs.Prelude.{◌≡◌, ◌⊎◌, ◌≤◌, None};
+ghost use Rattle.std.specs.Prelude.{◌≡◌, ◌⊎◌, ◌≤◌, None, IsTrue};
 ghost use Rattle.std.specs.Thread.{IsSync};
 ghost use Rattle.zk_model.specs.declared.Side.TheVariants.{Verifier};
 ghost use Rattle.zk_model.specs.declared.limits.TheConstants.{MAX_UNITS};
@@ -63,6 +63,8 @@ pub fn verify_claim<R: Threads + Sync, G: Grantor, C: Claim, L: Link>(
         (snapshot_of line.old) (snapshot_of line.new) }
     ensures exact { EndsAccepted (claim_behind file.now.params (C.claim claim.now)) (first_places (C.claim claim.now)) line.new.log
         → result ≡ Judged Accepted }
+    ensures side { line.new.side ≡ line.old.side }
+    ensures open_still { IsTrue line.new.is_open }
 {
     claim.is_sound();
     claim.has_places();

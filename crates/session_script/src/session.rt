@@ -1,5 +1,5 @@
 // A whole session of an end that goes by its script.
-ghost use Rattle.std.specs.Prelude.{◌≡◌, ◌^◌, ◌≤◌, [], None};
+ghost use Rattle.std.specs.Prelude.{◌≡◌, ◌^◌, ◌≤◌, [], None, IsTrue};
 ghost use Rattle.std.specs.Thread.{IsSync};
 ghost use Rattle.frame_link.specs.Lines.{snapshot_of};
 ghost use Rattle.zk_model.specs.declared.Side.TheVariants.{Verifier};
@@ -38,6 +38,8 @@ pub fn lead<R: Threads + Sync, O, V: Voice<O>, L: Link>(
         → EndsAccepted (V.rules (V.task end.old.voice)).behind (V.rules (V.task end.old.voice)).places line.new.log
         → EndsSo (V.rules (V.task end.old.voice)) result (V.known end.new.voice asked.new) }
     ensures task { V.task end.new.voice ≡ V.task end.old.voice }
+    ensures side { line.new.side ≡ line.old.side }
+    ensures open_still { IsTrue line.new.is_open }
 {
     run(rt, alloc, end, asked, line)
 }
