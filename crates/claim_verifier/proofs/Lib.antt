@@ -1,3 +1,4 @@
 pub mod Due
 pub mod AtPlaces
 pub mod Verified
+pub mod Whole

@@ -1,3 +1,4 @@
 pub mod Hearing
 pub mod Rounds
+pub mod Served
 pub mod Sessions

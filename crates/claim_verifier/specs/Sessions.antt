@@ -8,6 +8,7 @@ use Rattle.zk_model.specs.View.{span_of}
 use Rattle.zk_model.specs.declared.Side.TheVariants.{Verifier}
 use Rattle.frame_link.specs.Lines.{LinkSnapshot}
 use Rattle.frame_link.specs.declared.fault.LineFault.TheVariants as line
+use Rattle.session_core.specs.declared.judgement.Judgement.{Judgement}
 use Rattle.session_core.specs.declared.judgement.Judgement.TheVariants.{Accepted}
 use Rattle.session_driver.specs.declared.drive.Outcome.{Outcome}
 use Rattle.session_driver.specs.declared.drive.Outcome.TheVariants as driven
@@ -17,6 +18,7 @@ use Rattle.session_verifier.specs.Serving.{Grants}
 use Rattle.session_claim.specs.Claims.{Claim, IsExchange, claim_needs}
 use Rattle.session_claim.specs.Script.{first_places}
 use Rattle.claim_verifier.specs.Hearing.{Heard, nothing_heard, known_of, exchange_in, verifier_rules}
+use Rattle.claim_verifier.specs.Served.{IsHeardWhole}
 use Rattle.claim_verifier.specs.declared.fault.VoiceFault.{VoiceFault}
 use Rattle.claim_verifier.specs.declared.verify.SessionEnd.{SessionEnd}
 use Rattle.claim_verifier.specs.declared.verify.SessionEnd.TheVariants.{Judged, Refused, Cut}
@@ -43,7 +45,8 @@ pub record IsUnbegun {R : Type 0} (old new : R) (ended : SessionEnd) (first now 
   pub grantor : new ≡ old
   pub same : now ≡ first
 
--- What was heard and said, by a verifier's rules, from nothing on; and what it shows where it is accepted.
+-- What was heard and said, by a verifier's rules, from nothing on; what it shows where it is accepted; and that a session that was judged is
+-- whole, and shows the same of the pairs that a prover sees whose file is dealt with the verifier's.
 pub record VerifierLeaves {R : Type 0} (grants : Grants R) (claim : Claim) (file : VerifierFile) (section_length : ℕ) (old new : R) (ended : SessionEnd)
     (first now : LinkSnapshot) : Type 0 where
   pub heard : Heard
@@ -52,3 +55,4 @@ pub record VerifierLeaves {R : Type 0} (grants : Grants R) (claim : Claim) (file
       (known_of heard new) outcome first now
   pub ends : EndsAs ended heard outcome
   pub shown : ended ≡ Judged Accepted → IsShown claim file heard
+  pub whole : (judgement : Judgement) → ended ≡ Judged judgement → IsHeardWhole claim file section_length heard judgement now.log

@@ -26,6 +26,7 @@ use session_laws::replies_are_in_range;
 use session_script::{EndFault, Scripted, lead};
 use std::alloc::Global;
 use std::thread::Threads;
+use zk_laws::{keys_fit, pairs_exist};
 use zk_port::Link;
 
 /// How a session ended.
@@ -69,6 +70,8 @@ pub fn verify_claim<R: Threads + Sync, G: Grantor, C: Claim, L: Link>(
     claim.is_sound();
     claim.has_places();
     replies_are_in_range();
+    keys_fit();
+    pairs_exist();
     let _total = file.total();
     let Ok(left) = first_places(alloc, claim) else {
         return SessionEnd::Cut {

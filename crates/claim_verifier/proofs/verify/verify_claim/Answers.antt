@@ -12,6 +12,7 @@ use Rattle.claim_verifier.specs.Rounds.{round_stage}
 use Rattle.claim_verifier.specs.declared.verify.SessionEnd.TheVariants.{Judged}
 use Rattle.session_core.specs.declared.judgement.Judgement.{Judgement}
 use Rattle.claim_verifier.proofs.Verified.{none_accepted, judged, shown}
+use Rattle.claim_verifier.proofs.Whole.{heard_whole}
 use Rattle.claim_verifier.proofs.verify.verify_claim.Given.{Over}
 use Rattle.claim_verifier.proofs.verify.verify_claim.Goals as goal
 
@@ -95,6 +96,9 @@ returns-in-Some-clause-leaves g c =
       ends = (refl, c.in-Some.is);
       shown = λ accepted. shown (grants g) claim c.args.file.now c.args.section c.has_places.ensures c.total-total.ensures.file c.replies_are_in_range.ensures
           c.is_sound.ensures c.args.grantor.now c.lead.new.asked heard (snapshot_of c.args.line.now) (snapshot_of c.lead.new.line) unheard leaves (c.in-Some.is ∙ ap Some (judgement_is accepted));
+      whole = λ judgement is. heard_whole (grants g) claim c.args.file.now c.args.section c.has_places.ensures c.total-total.ensures.file
+          c.replies_are_in_range.ensures c.is_sound.ensures c.keys_fit.ensures c.pairs_exist.ensures c.args.grantor.now c.lead.new.asked heard
+          (snapshot_of c.args.line.now) (snapshot_of c.lead.new.line) leaves judgement (c.in-Some.is ∙ ap Some (judgement_is is));
     })
 
 pub unreachable-requires : goal.unreachable-requires
