@@ -51,7 +51,7 @@ HUGE = 10**12
 
 TOKEN = re.compile(rb"[^ \t\r\n]+")
 
-USAGE = "usage: zk deal, eval, rehearse, prove, serve, serve-many, migrate, status, rehearse-arith, prove-arith, serve-arith, audit-arith, node, broker, serve-node or audit"
+USAGE = "usage: zk deal, eval, rehearse, prove, serve, serve-many, migrate, status, rehearse-poly, prove-poly, serve-poly, rehearse-arith, prove-arith, serve-arith, audit-arith, node, broker, serve-node or audit"
 
 
 class Fault(NamedTuple):

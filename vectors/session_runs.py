@@ -17,6 +17,7 @@ import sys
 from typing import Callable, Dict, Iterable, Iterator, List, NamedTuple, Optional, Tuple
 
 import arith_runs
+import poly_runs
 import bristol
 import broker_runs
 import dealt_files
@@ -1447,13 +1448,30 @@ def check_published(written: Dict[str, List[str]]) -> None:
         assert all(any(f" {end} accepted " in each for each in having) for end in ("served", "proved")), given.name
 
 
+def poly_lines() -> Dict[str, List[str]]:
+    """Sessions about constraints, with what is written of each in the file that stands there."""
+    line_of = lambda row: run(row[0], **row[1]).line()
+    lines = [line_of(row) for row in poly_runs.rows()]
+    assert len(set(lines)) == len(lines), "a line stands twice"
+    found: Dict[str, List[str]] = {line: [] for line in lines}
+    of: List[str] = []
+    for line in (CRATE / "stdout").read_text().splitlines():
+        if line.startswith(("run ", "zk ", "served", "proved")) and (line in found or line.startswith(("run words=", "zk "))):
+            of = found.get(line, [])
+        else:
+            of.append(line)
+    poly_runs.check(found, line_of)
+    return found
+
+
 def main() -> int:
     scenarios = all_scenarios()
     written = {scenario.line(): lines_of(scenario) for scenario in scenarios}
     assert len(written) == len(scenarios), "a line stands twice"
     check_published(written)
+    kept = poly_lines()
     stored = [(f"zk {run.words}", [*run.lines, f"status {run.status}"]) for run in stored_runs.all_runs()]
-    entries = [*written.items(), *stored]
+    entries = [*written.items(), *stored, *kept.items()]
     files = {
         "stdin": "".join(f"{given}\n" for given, _ in entries).encode(),
         "stdout": "".join(f"{given}\n" + "".join(f"{each}\n" for each in lines) for given, lines in entries).encode(),

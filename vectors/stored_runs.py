@@ -17,6 +17,7 @@ import sys
 from typing import Dict, List, NamedTuple, Optional, Tuple
 
 import arithmetic
+import polynomial
 import bristol
 import common
 import dealt_files
@@ -692,6 +693,130 @@ def arithmetic_runs() -> List[Run]:
     return runs + arith_refusals()
 
 
+# Texts of constraints: one whose value is 3, or its negative; none; of no values; of a constant alone; of eight factors; of a coefficient 0 that
+# raises the degree; and a point on a curve.
+POLY_TEXTS = {
+    "poly_square.txt": b"1 1 2 1 2 0 0 2305843009213693942 0\n",
+    "poly_none.txt": b"0 0\n",
+    "poly_free.txt": b"2 0\n",
+    "poly_constant.txt": b"0 1 1 0 0\n",
+    "poly_one.txt": b"0 1 1 1 0\n",
+    "poly_eight.txt": b"2 1 2 1 8 0 0 0 0 0 0 0 0 2305843009213693950 1 1\n",
+    "poly_lifted.txt": b"1 1 3 1 2 0 0 2305843009213693942 0 0 5 0 0 0 0 0\n",
+    "poly_curve.txt": b"2 1 4 1 2 1 1 2305843009213693950 3 0 0 0 2305843009213693944 1 0 14 0\n",
+}
+
+# A text for each fault of constraints, and its token.
+POLY_FAULTS = [
+    ("poly_short.txt", b"1 1 2 1 2 0 0 5", "ShortText", 8),
+    ("poly_bad_number.txt", b"1 1 2 1 2 0 x 5 0", "BadNumber", 6),
+    ("poly_too_large.txt", b"1 1 1 2305843009213693951 0", "TooLarge", 3),
+    ("poly_many_values.txt", b"65537 0", "TooLarge", 0),
+    ("poly_many_constraints.txt", b"0 65537", "TooLarge", 1),
+    ("poly_many_terms.txt", b"1 1 4097", "TooLarge", 2),
+    ("poly_many_factors.txt", b"1 1 1 1 9 0", "TooLarge", 4),
+    ("poly_range.txt", b"1 1 1 1 1 1", "VarRange", 5),
+    ("poly_extra.txt", b"1 0 0", "ExtraText", 2),
+    ("poly_empty.txt", b"", "ShortText", 0),
+]
+
+
+def poly_chain() -> bytes:
+    """Three thousand values, each of which is the square of the one before it."""
+    lines = ["3000 2999"] + [f"2 1 2 {i} {i} {2**61 - 2} 1 {i + 1}" for i in range(2999)]
+    return "\n".join([*lines, ""]).encode()
+
+
+def poly_chain_values() -> List[int]:
+    values = [2]
+    while len(values) < 3000:
+        values.append(values[-1] ** 2 % (2**61 - 1))
+    return values
+
+
+def poly_files() -> Dict[str, bytes]:
+    """The files of constraints and of values that runs take."""
+    faulty = {name: text for name, text, _, _ in POLY_FAULTS}
+    chained = "\n".join(map(str, [*poly_chain_values(), ""])).encode()
+    curve = {"curve.values": b"1 2753", "eight.values": b"2 256\n"}
+    return {**POLY_TEXTS, **faulty, "poly_chain.txt": poly_chain(), "chain.values": chained, **curve}
+
+
+def poly_texts() -> Dict[str, bytes]:
+    """The same with those of the examples."""
+    return {**poly_files(), **{name: (EXAMPLES / name).read_bytes() for name in ("square.txt", "square.values")}}
+
+
+def rehearse_poly_run(file: str, values: str, section: Optional[int] = None, extended: bool = False) -> Run:
+    """A rehearsal of constraints: a correlation for each value, and one less than the degree for masks."""
+    texts = {**VALUES, **poly_texts()}
+    constraints, x = polynomial.read(texts[file]), arithmetic.elements(texts[values])
+    assert isinstance(constraints, polynomial.Constraints) and isinstance(x, list)
+    words = f"rehearse-poly {file} {values}" + (f" --section {section}" if section else "") + (" --extended" if extended else "")
+    unmet = [i for i, value in enumerate(constraints.values(x)) if value]
+    if unmet:
+        return Run(words, [f"unsatisfied {unmet[0]}"], 1)
+    need = constraints.variables + constraints.degree() - 1
+    units = max(1, -(-need // (8 * 1024 if extended else 64)))
+    count = len(constraints.polynomials)
+    counts = f"variables {constraints.variables} constraints {count} degree {constraints.degree()} correlations {need} units {units}"
+    return Run(words, [counts, "accepted"], 0)
+
+
+def poly_rehearsals() -> List[Run]:
+    """Rehearsals of constraints: of each shape, of thousands, and those that are refused, the text before the values."""
+    pairs = [("poly_square.txt", "three.values"), ("poly_square.txt", "four.values"), ("poly_none.txt", "empty.values")]
+    pairs += [("poly_free.txt", "two.values"), ("poly_constant.txt", "empty.values"), ("poly_one.txt", "empty.values")]
+    pairs += [("poly_eight.txt", "eight.values"), ("poly_lifted.txt", "three.values"), ("square.txt", "square.values")]
+    runs = [rehearse_poly_run(file, values) for file, values in pairs]
+    runs += [rehearse_poly_run("poly_square.txt", "three.values", 1), rehearse_poly_run("poly_eight.txt", "eight.values", None, True)]
+    runs += [rehearse_poly_run("poly_chain.txt", "chain.values", section, extended) for section in (None, 10) for extended in (False, True)]
+    for file, text, name, place in POLY_FAULTS:
+        assert polynomial.read(text) == polynomial.Fault(name, place), file
+        runs.append(Run(f"rehearse-poly {file} missing", [f"refused {name} {polynomial.NUMBERS[name]} {place}"], 3))
+    given: List[Tuple[str, List[str], int]] = [
+        ("poly_square.txt none.values", ["refused BadValue 1 0"], 3),
+        ("poly_square.txt beyond.values", ["refused BadValue 1 1"], 3),
+        ("poly_square.txt empty.values", ["refused Count 2 1 0"], 3),
+        ("poly_square.txt two.values", ["refused Count 2 1 2"], 3),
+        ("poly_square.txt missing", ["failed shelf"], 4),
+        ("missing.txt three.values", ["failed shelf"], 4),
+        ("poly_square.txt", [bristol.USAGE], 2),
+        ("poly_square.txt three.values --section 0", [bristol.USAGE], 2),
+        ("poly_square.txt three.values --public 1", [bristol.USAGE], 2),
+        ("--gates 10 --number 3", [bristol.USAGE], 2),
+    ]
+    return runs + [Run(f"rehearse-poly {words}", lines, status) for words, lines, status in given]
+
+
+def poly_parties() -> List[Run]:
+    """Both ends of sessions about constraints, with nobody at the other one, in the order of their refusals; and words that ask for nothing."""
+    given: List[Tuple[str, List[str], int]] = [
+        ("serve-poly here z.verifier poly_square.txt --sessions 1", [], 0),
+        ("serve-poly here y.verifier poly_chain.txt --section 1 --sessions 1 --logs l", [], 0),
+        # Constraints that nobody can meet are served too.
+        ("serve-poly here z.verifier poly_one.txt --sessions 1", [], 0),
+        ("serve-poly here missing poly_short.txt --sessions 1", ["refused ShortText 1 8"], 3),
+        ("serve-poly here z.verifier missing.txt --sessions 1", ["failed shelf"], 4),
+        ("serve-poly here missing poly_square.txt --sessions 1", ["failed shelf"], 4),
+        ("serve-poly here z.prover poly_square.txt --sessions 1", ["refused BadKind 2"], 3),
+        (f"serve-poly here {ALONE} poly_square.txt --sessions 1", ["journal failed 1"], 5),
+        ("prove-poly here z.prover poly_square.txt three.values", ["failed door"], 4),
+        ("prove-poly here y.prover poly_chain.txt chain.values --timeout 5", ["failed door"], 4),
+        ("prove-poly here missing poly_square.txt four.values", ["unsatisfied 0"], 1),
+        ("prove-poly here missing poly_one.txt empty.values", ["unsatisfied 0"], 1),
+        ("prove-poly here missing poly_square.txt none.values", ["refused BadValue 1 0"], 3),
+        ("prove-poly here missing poly_square.txt two.values", ["refused Count 2 1 2"], 3),
+        ("prove-poly here missing poly_range.txt missing", ["refused VarRange 4 5"], 3),
+        ("prove-poly here missing poly_square.txt three.values", ["failed shelf"], 4),
+        ("prove-poly here z.verifier poly_square.txt three.values", ["refused BadKind 2"], 3),
+    ]
+    serve, prove = "serve-poly here z.verifier poly_square.txt", "prove-poly here z.prover poly_square.txt three.values"
+    words = ["serve-poly", serve, f"{serve} --sessions 0", f"{serve} more --sessions 1", f"{serve} --sessions 1 --public 1"]
+    words += ["prove-poly", f"{prove} more", f"{prove} --section 1", f"{prove} --public 1", f"{prove} --timeout 0", "serve-polys" + serve[10:] + " --sessions 1"]
+    return [Run(*row) for row in given] + [Run(each, [bristol.USAGE], 2) for each in words]
+
+
 def arith_services() -> List[Run]:
     """Services about arithmetic circuits, over the files of the other services: the circuit's file comes first, then that of the outputs."""
     given: List[Tuple[str, List[str], int]] = [
@@ -808,7 +933,7 @@ def all_runs() -> List[Run]:
         runs += [eval_run(case.file, case.bits, case.outputs, 0), rehearse_run(case)]
     runs += [eval_run(case.file, case.bits, case.outputs, 0) for case in aes]
     runs += [rehearse_run(aes[1])] + refusals() + orders() + sections() + extensions() + public_bits() + dealings()
-    return runs + services() + proofs() + audits() + migrations() + statuses() + nodes() + bits_in_files() + other_forms() + too_large() + arithmetic_runs() + arith_parties()
+    return runs + services() + proofs() + audits() + migrations() + statuses() + nodes() + bits_in_files() + other_forms() + too_large() + arithmetic_runs() + arith_parties() + poly_rehearsals() + poly_parties()
 
 
 def alone() -> bytes:
@@ -817,7 +942,7 @@ def alone() -> bytes:
 
 
 def main() -> int:
-    files = {path.name: path.read_bytes() for path in EXAMPLES.glob("*.*") if path.suffix in (".txt", ".values")} | arith_files()
+    files = {path.name: path.read_bytes() for path in EXAMPLES.glob("*.*") if path.suffix in (".txt", ".values")} | arith_files() | poly_files()
     files[ALONE] = alone()
     if sys.argv[1:] == ["--write"]:
         for name, data in files.items():

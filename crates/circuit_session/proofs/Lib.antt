@@ -4,3 +4,4 @@ pub mod Ends
 pub mod Findings
 pub mod Shown
 pub mod SaidFits
+pub mod Decided

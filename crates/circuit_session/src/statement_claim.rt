@@ -43,6 +43,10 @@ impl<'a> Claim for StatementClaim<'a> {
         let _stated = self.statement.program();
     }
 
+    fn is_decided(&self) {
+        let _stated = self.statement.program();
+    }
+
     fn answers(&self, alloc: Global, section: u32) -> Result<Vec<Expect>, AllocError> {
         let program = self.statement.program();
         let _products = program.products();

@@ -1,2 +1,4 @@
 mod Due
 mod AtPlaces
+mod Claimed
+mod Answered

@@ -1,5 +1,5 @@
 -- What a session of a prover about a claim leaves.
-use Rattle.std.specs.Prelude.{◌≡◌, Some, [], ◌∷◌}
+use Rattle.std.specs.Prelude.{◌≡◌, ◌⊎◌, ℕ, None, Some, [], ◌∷◌}
 use Rattle.zk_model.specs.Files.{ProverFile}
 use Rattle.zk_model.specs.Frames.{hello}
 use Rattle.zk_model.specs.declared.Expect.TheVariants as expect
@@ -8,7 +8,7 @@ use Rattle.frame_link.specs.Lines.{LinkSnapshot}
 use Rattle.frame_link.specs.declared.fault.LineFault.TheVariants as line
 use Rattle.session_driver.specs.declared.drive.Outcome.{Outcome}
 use Rattle.session_driver.specs.declared.drive.Outcome.TheVariants as driven
-use Rattle.session_prover.specs.Stages.{ClaimantTells}
+use Rattle.session_prover.specs.Stages.{Claim, ClaimantTells, claimant_tells}
 use Rattle.session_script.specs.Scripts.{ScriptLeaves, stage_of}
 use Rattle.session_script.specs.declared.fault.EndFault.{EndFault}
 use Rattle.claim_prover.specs.Telling.{Knowledge, Told, nothing_told, known_of, prover_rules}
@@ -36,3 +36,20 @@ pub record IsUnbegun {O : Type 0} (old new : O) (ended : ProverEnd) (first now :
   pub ended_is : ended ≡ Cut line.NoMemory
   pub claimant : new ≡ old
   pub same : now ≡ first
+
+-- ---- a claimant by its answer alone
+
+-- One who claims units of so many, by what it was asked for and answered alone: whoever it is, it is told so.
+abbrev pub answer_alone : ℕ → ClaimantTells Claim
+answer_alone total = claimant_tells (λ c. c.asked) (λ c. c.answer) (λ c. total)
+    (λ old start count answer new. new ≡ record { asked = Some (start, count); answer = Some answer })
+
+-- it was not asked yet
+abbrev pub unasked : Claim
+unasked = record { asked = None; answer = None }
+
+-- What came of a session of a prover whose claimant was asked for this, and answered so: memory was missing before anything passed; or this
+-- was said and heard.
+abbrev pub LeavesTold : Knowledge → ProverFile → Claim → ProverEnd → LinkSnapshot → LinkSnapshot → Type 0
+LeavesTold knows file claim ended first now = IsUnbegun unasked claim ended first now
+    ⊎ ProverLeaves (answer_alone file.params.total) knows file unasked claim ended first now

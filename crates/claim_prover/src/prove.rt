@@ -1,5 +1,5 @@
 // A prover's session about a claim, over a line.
-ghost use Rattle.std.specs.Prelude.{◌≡◌, ◌⊎◌, ◌∷◌, [], ◌≤◌, None, All, IfOk, IsTrue};
+ghost use Rattle.std.specs.Prelude.{◌≡◌, ◌⊎◌, ◌∷◌, [], ◌≤◌, None, Some, Err, All, IfOk, IsSomeAnd, IsTrue, MatchOption};
 ghost use Rattle.std.specs.Thread.{IsSync};
 ghost use Rattle.zk_model.specs.declared.Expect.TheVariants as expect;
 ghost use Rattle.zk_model.specs.declared.Side.TheVariants.{Prover};
@@ -7,7 +7,11 @@ ghost use Rattle.proof_frames.specs.Readings.{IsShortPlace};
 ghost use Rattle.frame_link.specs.Lines.{snapshot_of};
 ghost use Rattle.session_driver.specs.Runs.{IsFresh};
 ghost use Rattle.session_prover.specs.Stages.{claimant_tells};
-ghost use Rattle.claim_prover.specs.Sessions.{IsUnbegun, ProverLeaves};
+ghost use Rattle.session_script.specs.declared.fault.EndFault.TheVariants.{OfVoice};
+ghost use Rattle.claim_store.specs.declared.ClaimFault.{ClaimFault};
+ghost use Rattle.claim_prover.specs.Sessions.{IsUnbegun, LeavesTold, ProverLeaves};
+ghost use Rattle.claim_prover.specs.declared.fault.ProvingFault.TheVariants as faults;
+ghost use Rattle.claim_prover.specs.declared.prove.ProverEnd.TheVariants as ended;
 ghost use Rattle.claim_prover.specs.Telling.{knowledge_of};
 
 use crate::fault::ProvingFault;
@@ -47,9 +51,8 @@ fn grant_place(alloc: Global) -> Result<VecDeque<Expect>, AllocError>
     Ok(places)
 }
 
-/// Leads a session about a claim with a peer that may send anything: says its hello, has the units that it is granted claimed, asks for
-/// them in kind extended, commits its values, answers the challenge, and reads the verdict.
-pub fn prove_claim<'a, R: Threads + Sync, O: Claimant, W: Witness, L: Link>(
+/// Leads a session, from its hello to its verdict.
+fn lead_claim<'a, R: Threads + Sync, O: Claimant, W: Witness, L: Link>(
     rt: &R,
     alloc: Global,
     witness: &'a W,
@@ -97,4 +100,42 @@ pub fn prove_claim<'a, R: Threads + Sync, O: Claimant, W: Witness, L: Link>(
         Outcome::Refused { fault } => ProverEnd::Refused { fault },
         Outcome::Cut { fault } => ProverEnd::Cut { fault },
     }
+}
+
+/// Leads a session about a claim with a peer that may send anything: says its hello, has the units that it is granted claimed, asks for
+/// them in kind extended, commits its values, answers the challenge, and reads the verdict.
+pub fn prove_claim<'a, R: Threads + Sync, O: Claimant, W: Witness, L: Link>(
+    rt: &R,
+    alloc: Global,
+    witness: &'a W,
+    file: &'a ProverFile,
+    claimant: &mut O,
+    line: &mut Line<L>,
+) -> ProverEnd
+    requires shared { IsSync R.row }
+    requires once { O.answer claimant.old ≡ None }
+    requires total { O.total claimant.old ≤ file.now.params.total }
+    requires fresh { IsFresh line.old }
+    requires side { line.old.side ≡ Prover }
+    ensures leaves { IsUnbegun claimant.old claimant.new result (snapshot_of line.old) (snapshot_of line.new)
+        ⊎ ProverLeaves (claimant_tells O.asked O.answer O.total O.moves)
+        (knowledge_of (W.claim witness.now) (W.said witness.now) (W.given witness.now) (W.replying witness.now)) file.now claimant.old claimant.new
+        result (snapshot_of line.old) (snapshot_of line.new) }
+    ensures told { O.asked claimant.old ≡ None
+        → LeavesTold (knowledge_of (W.claim witness.now) (W.said witness.now) (W.given witness.now) (W.replying witness.now)) file.now
+        (record { asked = O.asked claimant.new; answer = O.answer claimant.new }) result (snapshot_of line.old) (snapshot_of line.new) }
+    ensures moved { MatchOption (O.answer claimant.new) (claimant.new ≡ claimant.old)
+        (λ answer. IsSomeAnd (O.asked claimant.new)
+        (λ units. O.moves claimant.old units.0 units.1 answer claimant.new)) }
+    ensures refused { (cause : ClaimFault) → result ≡ ended.Refused (OfVoice (faults.Claim cause))
+        → O.answer claimant.new ≡ Some (Err cause) }
+    ensures refusal { (cause : ClaimFault) → O.answer claimant.new ≡ Some (Err cause)
+        → result ≡ ended.Refused (OfVoice (faults.Claim cause)) }
+    ensures side { line.new.side ≡ line.old.side }
+    ensures open_still { IsTrue line.new.is_open }
+{
+    asks_are_in_range();
+    witness.has_places();
+    let _total = file.total();
+    lead_claim(rt, alloc, witness, file, claimant, line)
 }

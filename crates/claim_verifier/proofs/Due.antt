@@ -147,6 +147,7 @@ module _ {R : Type 0} (grants : Grants R) (claim : Claim) (file : VerifierFile) 
   -- it was judged
   pub record IsJudgedSo (heard : Heard) (given : Grant) (judgement : Judgement) : Type 0 where
     pub has : HasGrant heard given
+    pub over : IsRoundOver file.params.kind heard.round
     pub said : heard.judged ≡ Some judgement
     pub exchange : IsExchange claim (exchange_in file given heard)
     pub enough : claim_needs claim given.section_length ≤ length (span_keys file (span_of given))
@@ -458,6 +459,7 @@ module _ {R : Type 0} (grants : Grants R) (claim : Claim) (file : VerifierFile) 
         judgement = on.judgement;
         judged = record {
           has = has_on given due.has (ap (λ (h : Heard). h.given) on.heard);
+          over = subst (IsRoundOver file.params.kind) (sym (ap (λ (h : Heard). h.round) on.heard)) due.over;
           said = ap (λ (h : Heard). h.judged) on.heard;
           exchange = subst (λ (h : Heard). IsExchange claim (exchange_in file given h)) (sym on.heard) (record {
             corrections = due.corrections;

@@ -2,3 +2,5 @@ pub mod Due
 pub mod AtPlaces
 pub mod Verified
 pub mod Whole
+pub mod Leased
+pub mod Answered

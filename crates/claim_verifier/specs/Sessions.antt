@@ -1,13 +1,15 @@
 -- What a session of a verifier about a claim leaves.
-use Rattle.std.specs.Prelude.{◌≡◌, ◌≤◌, ℕ, Some, List, [], length}
+use Rattle.std.specs.Prelude.{◌≡◌, ◌⊎◌, ◌≤◌, ℕ, Option, Some, None, List, [], length, Result}
 use Rattle.zk_model.specs.Correlations.{span_keys}
 use Rattle.zk_model.specs.Files.{VerifierFile}
 use Rattle.zk_model.specs.Mac.{Pair, AreKeysOf}
 use Rattle.zk_model.specs.Transcript.{Grant}
 use Rattle.zk_model.specs.View.{span_of}
 use Rattle.zk_model.specs.declared.Side.TheVariants.{Verifier}
+use Rattle.zk_model.specs.declared.Span.{Span}
 use Rattle.frame_link.specs.Lines.{LinkSnapshot}
 use Rattle.frame_link.specs.declared.fault.LineFault.TheVariants as line
+use Rattle.lease_store.specs.declared.grantor.GrantFault.{GrantFault}
 use Rattle.session_core.specs.declared.judgement.Judgement.{Judgement}
 use Rattle.session_core.specs.declared.judgement.Judgement.TheVariants.{Accepted}
 use Rattle.session_driver.specs.declared.drive.Outcome.{Outcome}
@@ -17,7 +19,7 @@ use Rattle.session_script.specs.declared.fault.EndFault.{EndFault}
 use Rattle.session_verifier.specs.Serving.{Grants}
 use Rattle.session_claim.specs.Claims.{Claim, IsExchange, claim_needs}
 use Rattle.session_claim.specs.Script.{first_places}
-use Rattle.claim_verifier.specs.Hearing.{Heard, nothing_heard, known_of, exchange_in, verifier_rules}
+use Rattle.claim_verifier.specs.Hearing.{Heard, nothing_heard, known_of, exchange_in, units_of, verifier_rules}
 use Rattle.claim_verifier.specs.Served.{IsHeardWhole}
 use Rattle.claim_verifier.specs.declared.fault.VoiceFault.{VoiceFault}
 use Rattle.claim_verifier.specs.declared.verify.SessionEnd.{SessionEnd}
@@ -56,3 +58,23 @@ pub record VerifierLeaves {R : Type 0} (grants : Grants R) (claim : Claim) (file
   pub ends : EndsAs ended heard outcome
   pub shown : ended ≡ Judged Accepted → IsShown claim file heard
   pub whole : (judgement : Judgement) → ended ≡ Judged judgement → IsHeardWhole claim file section_length heard judgement now.log
+
+-- what is answered about the units of a session, if any were asked for
+abbrev pub Answer : Type 0
+Answer = Option (Result Span GrantFault)
+
+-- one who leases so many units, of so many in all, known by its answer alone
+abbrev pub answer_alone : ℕ → ℕ → Grants Answer
+answer_alone count total = record {
+  answer = λ answer. answer;
+  asked = λ answer. Some count;
+  total = λ answer. total;
+  may = λ answer units. Unit {0};
+  moves = λ old units answer new. Unit {0};
+}
+
+-- what a session leaves, by the answer about its units alone
+abbrev pub LeavesTold : Claim → VerifierFile → ℕ → Answer → SessionEnd → LinkSnapshot → LinkSnapshot → Type 0
+LeavesTold claim file section_length answer ended first now =
+    IsUnbegun None answer ended first now
+    ⊎ VerifierLeaves (answer_alone (units_of claim file section_length) file.params.total) claim file section_length None answer ended first now

@@ -1,5 +1,5 @@
 // A verifier's session about a claim, over a line.
-ghost use Rattle.std.specs.Prelude.{◌≡◌, ◌⊎◌, ◌≤◌, None, IsTrue};
+ghost use Rattle.std.specs.Prelude.{◌≡◌, ◌⊎◌, ◌≤◌, None, Some, IfSome, IsTrue, MatchOption};
 ghost use Rattle.std.specs.Thread.{IsSync};
 ghost use Rattle.zk_model.specs.declared.Side.TheVariants.{Verifier};
 ghost use Rattle.zk_model.specs.declared.limits.TheConstants.{MAX_UNITS};
@@ -10,7 +10,7 @@ ghost use Rattle.session_verifier.specs.Serving.{grants_of};
 ghost use Rattle.session_claim.specs.Script.{claim_behind, first_places};
 ghost use Rattle.session_core.specs.declared.judgement.Judgement.TheVariants.{Accepted};
 ghost use Rattle.claim_verifier.specs.Hearing.{units_of};
-ghost use Rattle.claim_verifier.specs.Sessions.{IsUnbegun, VerifierLeaves};
+ghost use Rattle.claim_verifier.specs.Sessions.{IsUnbegun, LeavesTold, VerifierLeaves};
 ghost use Rattle.claim_verifier.specs.declared.verify.SessionEnd.TheVariants.{Judged};
 
 use crate::fault::VoiceFault;
@@ -40,9 +40,8 @@ pub enum SessionEnd {
     Cut { fault: LineFault },
 }
 
-/// Leads a session about a claim with a peer that may send anything: meets its hello, has units leased, grants them, replies in kind
-/// extended to the asks for all of them, challenges, and judges. The log of a session that ends accepted is of no other end.
-pub fn verify_claim<R: Threads + Sync, G: Grantor, C: Claim, L: Link>(
+/// Leads a session about a claim by its script.
+fn lead_claim<R: Threads + Sync, G: Grantor, C: Claim, L: Link>(
     rt: &R,
     alloc: Global,
     claim: &C,
@@ -99,4 +98,45 @@ pub fn verify_claim<R: Threads + Sync, G: Grantor, C: Claim, L: Link>(
         Outcome::Refused { fault } => SessionEnd::Refused { fault },
         Outcome::Cut { fault } => SessionEnd::Cut { fault },
     }
+}
+
+/// Leads a session about a claim with a peer that may send anything: meets its hello, has units leased, grants them, replies in kind
+/// extended to the asks for all of them, challenges, and judges. The log of a session that ends accepted is of no other end. Units are asked for
+/// once at most.
+pub fn verify_claim<R: Threads + Sync, G: Grantor, C: Claim, L: Link>(
+    rt: &R,
+    alloc: Global,
+    claim: &C,
+    file: &VerifierFile,
+    section: u32,
+    grantor: &mut G,
+    line: &mut Line<L>,
+) -> SessionEnd
+    requires shared { IsSync R.row }
+    requires some { 1 ≤ section }
+    requires few { units_of (C.claim claim.now) file.now section ≤ MAX_UNITS }
+    requires once { G.answer grantor.old ≡ None }
+    requires total { G.total grantor.old ≤ file.now.params.total }
+    requires may { G.may grantor.old (units_of (C.claim claim.now) file.now section) }
+    requires fresh { IsFresh line.old }
+    requires side { line.old.side ≡ Verifier }
+    ensures leaves { IsUnbegun grantor.old grantor.new result (snapshot_of line.old) (snapshot_of line.new)
+        ⊎ VerifierLeaves (grants_of G.answer G.asked G.total G.may G.moves) (C.claim claim.now) file.now section grantor.old grantor.new result
+        (snapshot_of line.old) (snapshot_of line.new) }
+    ensures exact { EndsAccepted (claim_behind file.now.params (C.claim claim.now)) (first_places (C.claim claim.now)) line.new.log
+        → result ≡ Judged Accepted }
+    ensures moved { MatchOption (G.answer grantor.new) (grantor.new ≡ grantor.old)
+        (λ answer. G.moves grantor.old (units_of (C.claim claim.now) file.now section) answer grantor.new) }
+    ensures told { LeavesTold (C.claim claim.now) file.now section (G.answer grantor.new) result
+        (snapshot_of line.old) (snapshot_of line.new) }
+    ensures asked { IfSome (G.answer grantor.new)
+        (λ answer. G.asked grantor.new ≡ Some (units_of (C.claim claim.now) file.now section)) }
+    ensures side { line.new.side ≡ line.old.side }
+    ensures open_still { IsTrue line.new.is_open }
+{
+    claim.has_places();
+    replies_are_in_range();
+    let _total = file.total();
+    let end = lead_claim(rt, alloc, claim, file, section, grantor, line);
+    end
 }

@@ -12,7 +12,7 @@ use Rattle.command_words.specs.Found.{told}
 use Rattle.command_words.specs.Rows.{Row, ids_of, row_of}
 use Rattle.command_words.specs.Words.{name_of, names_of}
 use Rattle.command_words.specs.declared.table.Name.{Name}
-use Rattle.command_words.specs.declared.table.Name.TheVariants.{Rehearse, RehearseArith, Eval, Deal, Serve, ServeMany, ServeArith, Prove, ProveArith, Audit, AuditArith, Migrate, Status, Node, Broker, ServeNode}
+use Rattle.command_words.specs.declared.table.Name.TheVariants.{Rehearse, RehearseArith, RehearsePoly, Eval, Deal, Serve, ServeMany, ServeArith, ServePoly, Prove, ProveArith, ProvePoly, Audit, AuditArith, Migrate, Status, Node, Broker, ServeNode}
 use Rattle.command_words.proofs.Rows.{same_text}
 use Rattle.command_words.proofs.Steps.{flag, place, valued}
 use Rattle.command_words.proofs.Walks.{KnowsName, KnowsNames, KnowsPlaces, are_apart, is_among, is_apart}
@@ -175,13 +175,16 @@ pub known_of : (name : Name) → IsKnown (row_of name)
 unfolding is_valued is_flag
 known_of Rehearse = known_row (row_of Rehearse) refl refl refl refl refl refl refl (λ rows. refl) refl refl refl refl refl refl refl refl refl refl refl
 known_of RehearseArith = known_row (row_of RehearseArith) refl refl refl refl refl refl refl (λ rows. refl) refl refl refl refl refl refl refl refl refl refl refl
+known_of RehearsePoly = known_row (row_of RehearsePoly) refl refl refl refl refl refl refl (λ rows. refl) refl refl refl refl refl refl refl refl refl refl refl
 known_of Eval = known_row (row_of Eval) refl refl refl refl refl refl refl (λ rows. refl) refl refl refl refl refl refl refl refl refl refl refl
 known_of Deal = known_row (row_of Deal) refl refl refl refl refl refl refl (λ rows. refl) refl refl refl refl refl refl refl refl refl refl refl
 known_of Serve = known_row (row_of Serve) refl refl refl refl refl refl refl (λ rows. refl) refl refl refl refl refl refl refl refl refl refl refl
 known_of ServeMany = known_row (row_of ServeMany) refl refl refl refl refl refl refl (λ rows. refl) refl refl refl refl refl refl refl refl refl refl refl
 known_of ServeArith = known_row (row_of ServeArith) refl refl refl refl refl refl refl (λ rows. refl) refl refl refl refl refl refl refl refl refl refl refl
+known_of ServePoly = known_row (row_of ServePoly) refl refl refl refl refl refl refl (λ rows. refl) refl refl refl refl refl refl refl refl refl refl refl
 known_of Prove = known_row (row_of Prove) refl refl refl refl refl refl refl (λ rows. refl) refl refl refl refl refl refl refl refl refl refl refl
 known_of ProveArith = known_row (row_of ProveArith) refl refl refl refl refl refl refl (λ rows. refl) refl refl refl refl refl refl refl refl refl refl refl
+known_of ProvePoly = known_row (row_of ProvePoly) refl refl refl refl refl refl refl (λ rows. refl) refl refl refl refl refl refl refl refl refl refl refl
 known_of Audit = known_row (row_of Audit) refl refl refl refl refl refl refl (λ rows. refl) refl refl refl refl refl refl refl refl refl refl refl
 known_of AuditArith = known_row (row_of AuditArith) refl refl refl refl refl refl refl (λ rows. refl) refl refl refl refl refl refl refl refl refl refl refl
 known_of Migrate = known_row (row_of Migrate) refl refl refl refl refl refl refl (λ rows. refl) refl refl refl refl refl refl refl refl refl refl refl

@@ -3,23 +3,26 @@ use Rattle.std.specs.Prelude.{ℕ, ◌<◌, ◌≤◌, IfSome, Bool, String, Vec
 use Rattle.std.specs.Option.{option_map}
 use Rattle.std.specs.declared.alloc.Global.{Global}
 use Rattle.zk_model.specs.Files.{AreParams}
-use Rattle.command_words.specs.Words.{Ask, AuditArithAsk, AuditAsk, BrokerAsk, DealAsk, EvalAsk, MigrateAsk, NodeAsk, ProveArithAsk, ProveAsk, RehearseArithAsk, RehearseAsk, ServeArithAsk, ServeAsk, ServeManyAsk, ServeNodeAsk, ServeOptions, StatusAsk}
-use Rattle.command_words.specs.Words.{audit_arith_ask, audit_ask, broker_ask, deal_ask, eval_ask, migrate_ask, node_ask, prove_arith_ask, prove_ask, rehearse_arith_ask, rehearse_ask, serve_arith_ask, serve_ask, serve_many_ask, serve_node_ask, serve_options, status_ask}
+use Rattle.command_words.specs.Words.{Ask, AuditArithAsk, AuditAsk, BrokerAsk, DealAsk, EvalAsk, MigrateAsk, NodeAsk, ProveArithAsk, ProveAsk, ProvePolyAsk, RehearseArithAsk, RehearseAsk, RehearsePolyAsk, ServeArithAsk, ServePolyAsk, ServeAsk, ServeManyAsk, ServeNodeAsk, ServeOptions, StatusAsk}
+use Rattle.command_words.specs.Words.{audit_arith_ask, audit_ask, broker_ask, deal_ask, eval_ask, migrate_ask, node_ask, prove_arith_ask, prove_ask, prove_poly_ask, rehearse_arith_ask, rehearse_ask, rehearse_poly_ask, serve_arith_ask, serve_poly_ask, serve_ask, serve_many_ask, serve_node_ask, serve_options, status_ask}
 use Rattle.command_words.specs.BitWords.{Bits, BitsAsk, said, named}
 use Rattle.command_words.specs.declared.bits.BitsWord.{BitsWord}
 use Rattle.command_words.specs.declared.bits.BitsWord.TheVariants.{Said, Named}
 use Rattle.command_words.specs.declared.asks.Ask.{Ask as AskOf}
-use Rattle.command_words.specs.declared.asks.Ask.TheVariants.{Rehearse, Generate, RehearseArith, Eval, Deal, Serve, ServeMany, ServeArith, Prove, ProveArith, Audit, AuditArith, Migrate, Status, Node, Broker, ServeNode}
+use Rattle.command_words.specs.declared.asks.Ask.TheVariants.{Rehearse, Generate, RehearseArith, RehearsePoly, Eval, Deal, Serve, ServeMany, ServeArith, ServePoly, Prove, ProveArith, ProvePoly, Audit, AuditArith, Migrate, Status, Node, Broker, ServeNode}
 use Rattle.command_words.specs.declared.asks.RehearseAsk.{RehearseAsk as RehearseAskOf}
 use Rattle.command_words.specs.declared.asks.RehearseArithAsk.{RehearseArithAsk as RehearseArithAskOf}
+use Rattle.command_words.specs.declared.asks.RehearsePolyAsk.{RehearsePolyAsk as RehearsePolyAskOf}
 use Rattle.command_words.specs.declared.asks.EvalAsk.{EvalAsk as EvalAskOf}
 use Rattle.command_words.specs.declared.asks.DealAsk.{DealAsk as DealAskOf}
 use Rattle.command_words.specs.declared.asks.ServeAsk.{ServeAsk as ServeAskOf}
 use Rattle.command_words.specs.declared.asks.ServeManyAsk.{ServeManyAsk as ServeManyAskOf}
 use Rattle.command_words.specs.declared.asks.ServeArithAsk.{ServeArithAsk as ServeArithAskOf}
+use Rattle.command_words.specs.declared.asks.ServePolyAsk.{ServePolyAsk as ServePolyAskOf}
 use Rattle.command_words.specs.declared.asks.ServeOptions.{ServeOptions as ServeOptionsOf}
 use Rattle.command_words.specs.declared.asks.ProveAsk.{ProveAsk as ProveAskOf}
 use Rattle.command_words.specs.declared.asks.ProveArithAsk.{ProveArithAsk as ProveArithAskOf}
+use Rattle.command_words.specs.declared.asks.ProvePolyAsk.{ProvePolyAsk as ProvePolyAskOf}
 use Rattle.command_words.specs.declared.asks.AuditAsk.{AuditAsk as AuditAskOf}
 use Rattle.command_words.specs.declared.asks.AuditArithAsk.{AuditArithAsk as AuditArithAskOf}
 use Rattle.command_words.specs.declared.asks.MigrateAsk.{MigrateAsk as MigrateAskOf}
@@ -57,6 +60,9 @@ abbrev pub rehearse_arith_of : RehearseArithAskOf (String Global) → RehearseAr
 rehearse_arith_of ask =
     rehearse_arith_ask (string_bytes ask.circuit) (string_bytes ask.values) ask.kind ask.section
 
+abbrev pub rehearse_poly_of : RehearsePolyAskOf (String Global) → RehearsePolyAsk
+rehearse_poly_of ask = rehearse_poly_ask (string_bytes ask.text) (string_bytes ask.values) ask.kind ask.section
+
 abbrev pub eval_of : {B C : Type 0} → (B → C) → EvalAskOf (String Global) B → EvalAsk C
 eval_of given ask = eval_ask (string_bytes ask.circuit) (given ask.bits)
 
@@ -78,6 +84,10 @@ serve_arith_of ask =
     serve_arith_ask (string_bytes ask.address) (string_bytes ask.file) (string_bytes ask.circuit) (string_bytes ask.outputs)
     (named_options ask.options)
 
+abbrev pub serve_poly_of : ServePolyAskOf (String Global) → ServePolyAsk
+serve_poly_of ask =
+    serve_poly_ask (string_bytes ask.address) (string_bytes ask.file) (string_bytes ask.text) (named_options ask.options)
+
 abbrev pub prove_of : {B C : Type 0} → (B → C) → ProveAskOf (String Global) B → ProveAsk C
 prove_of given ask =
     prove_ask (string_bytes ask.address) (string_bytes ask.file) (string_bytes ask.circuit) (given ask.public)
@@ -87,6 +97,10 @@ abbrev pub prove_arith_of : ProveArithAskOf (String Global) → ProveArithAsk
 prove_arith_of ask =
     prove_arith_ask (string_bytes ask.address) (string_bytes ask.file) (string_bytes ask.circuit) (string_bytes ask.values)
     (string_bytes ask.outputs) ask.timeout
+
+abbrev pub prove_poly_of : ProvePolyAskOf (String Global) → ProvePolyAsk
+prove_poly_of ask =
+    prove_poly_ask (string_bytes ask.address) (string_bytes ask.file) (string_bytes ask.text) (string_bytes ask.values) ask.timeout
 
 abbrev pub audit_of : {B C : Type 0} → (B → C) → AuditAskOf (String Global) B → AuditAsk C
 audit_of given ask =
@@ -119,13 +133,16 @@ abbrev pub ask_of : {B C : Type 0} → (B → C) → Command B → Ask C
 ask_of given (Rehearse ask) = Rehearse (rehearse_of given ask)
 ask_of given (Generate ask) = Generate ask
 ask_of given (RehearseArith ask) = RehearseArith (rehearse_arith_of ask)
+ask_of given (RehearsePoly ask) = RehearsePoly (rehearse_poly_of ask)
 ask_of given (Eval ask) = Eval (eval_of given ask)
 ask_of given (Deal ask) = Deal (deal_of ask)
 ask_of given (Serve ask) = Serve (serve_of given ask)
 ask_of given (ServeMany ask) = ServeMany (serve_many_of ask)
 ask_of given (ServeArith ask) = ServeArith (serve_arith_of ask)
+ask_of given (ServePoly ask) = ServePoly (serve_poly_of ask)
 ask_of given (Prove ask) = Prove (prove_of given ask)
 ask_of given (ProveArith ask) = ProveArith (prove_arith_of ask)
+ask_of given (ProvePoly ask) = ProvePoly (prove_poly_of ask)
 ask_of given (Audit ask) = Audit (audit_of given ask)
 ask_of given (AuditArith ask) = AuditArith (audit_arith_of ask)
 ask_of given (Migrate ask) = Migrate (migrate_of ask)
@@ -171,12 +188,15 @@ abbrev pub IsWithinLimits : {B : Type 0} → Command B → Type 0
 IsWithinLimits (Rehearse ask) = IsSectionSize ask.section
 IsWithinLimits (Generate ask) = (1 ≤ ask.gates) × (ask.gates ≤ MAX_GENERATED_GATES) × IsSectionSize ask.section
 IsWithinLimits (RehearseArith ask) = IsSectionSize ask.section
+IsWithinLimits (RehearsePoly ask) = IsSectionSize ask.section
 IsWithinLimits (Deal ask) = AreParams ask.params
 IsWithinLimits (Serve ask) = AreServeLimits (named_options ask.options)
 IsWithinLimits (ServeMany ask) = AreServeLimits (named_options ask.options)
 IsWithinLimits (ServeArith ask) = AreServeLimits (named_options ask.options)
+IsWithinLimits (ServePoly ask) = AreServeLimits (named_options ask.options)
 IsWithinLimits (Prove ask) = IsTimeout ask.timeout
 IsWithinLimits (ProveArith ask) = IsTimeout ask.timeout
+IsWithinLimits (ProvePoly ask) = IsTimeout ask.timeout
 IsWithinLimits (Status ask) = IfSome ask.node (λ node. node < MAX_NODES)
 IsWithinLimits (Node ask) = ask.node < MAX_NODES
 IsWithinLimits (Broker ask) = AreBrokerLimits ask.asks ask.timeout

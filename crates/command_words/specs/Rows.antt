@@ -15,7 +15,7 @@ use Rattle.command_words.specs.declared.table.Need.TheVariants.{Always, Optional
 use Rattle.command_words.specs.declared.table.Row.{Row as RowOf}
 use Rattle.command_words.specs.declared.table.WordKind.{WordKind}
 use Rattle.command_words.specs.declared.table.WordKind.TheVariants as k
-use Rattle.command_words.specs.declared.table.TheConstants.{REHEARSE, REHEARSE_ARITH, EVAL, DEAL, SERVE, SERVE_MANY, SERVE_ARITH, PROVE, PROVE_ARITH, AUDIT, AUDIT_ARITH, MIGRATE, STATUS, NEW_NODE, BROKER, SERVE_NODE, NAMES}
+use Rattle.command_words.specs.declared.table.TheConstants.{REHEARSE, REHEARSE_ARITH, REHEARSE_POLY, EVAL, DEAL, SERVE, SERVE_MANY, SERVE_ARITH, SERVE_POLY, PROVE, PROVE_ARITH, PROVE_POLY, AUDIT, AUDIT_ARITH, MIGRATE, STATUS, NEW_NODE, BROKER, SERVE_NODE, NAMES}
 
 -- ---- rows, with their texts as bytes
 
@@ -52,13 +52,16 @@ row_at row = row_said (λ t. t.now) (λ c. c.now) (λ f. f.now) row
 abbrev pub row_of : Name → Row
 row_of n.Rehearse = row_said (λ t. t.now) (λ c. c.now) (λ f. f.now) REHEARSE
 row_of n.RehearseArith = row_said (λ t. t.now) (λ c. c.now) (λ f. f.now) REHEARSE_ARITH
+row_of n.RehearsePoly = row_said (λ t. t.now) (λ c. c.now) (λ f. f.now) REHEARSE_POLY
 row_of n.Eval = row_said (λ t. t.now) (λ c. c.now) (λ f. f.now) EVAL
 row_of n.Deal = row_said (λ t. t.now) (λ c. c.now) (λ f. f.now) DEAL
 row_of n.Serve = row_said (λ t. t.now) (λ c. c.now) (λ f. f.now) SERVE
 row_of n.ServeMany = row_said (λ t. t.now) (λ c. c.now) (λ f. f.now) SERVE_MANY
 row_of n.ServeArith = row_said (λ t. t.now) (λ c. c.now) (λ f. f.now) SERVE_ARITH
+row_of n.ServePoly = row_said (λ t. t.now) (λ c. c.now) (λ f. f.now) SERVE_POLY
 row_of n.Prove = row_said (λ t. t.now) (λ c. c.now) (λ f. f.now) PROVE
 row_of n.ProveArith = row_said (λ t. t.now) (λ c. c.now) (λ f. f.now) PROVE_ARITH
+row_of n.ProvePoly = row_said (λ t. t.now) (λ c. c.now) (λ f. f.now) PROVE_POLY
 row_of n.Audit = row_said (λ t. t.now) (λ c. c.now) (λ f. f.now) AUDIT
 row_of n.AuditArith = row_said (λ t. t.now) (λ c. c.now) (λ f. f.now) AUDIT_ARITH
 row_of n.Migrate = row_said (λ t. t.now) (λ c. c.now) (λ f. f.now) MIGRATE

@@ -19,14 +19,17 @@ use Rattle.command_words.specs.declared.asks.Ask.TheVariants as a
 use Rattle.command_words.specs.declared.asks.RehearseAsk.{RehearseAsk as RehearseAskOf}
 pub use Rattle.command_words.specs.declared.asks.GenerateAsk.{GenerateAsk}
 use Rattle.command_words.specs.declared.asks.RehearseArithAsk.{RehearseArithAsk as RehearseArithAskOf}
+use Rattle.command_words.specs.declared.asks.RehearsePolyAsk.{RehearsePolyAsk as RehearsePolyAskOf}
 use Rattle.command_words.specs.declared.asks.EvalAsk.{EvalAsk as EvalAskOf}
 use Rattle.command_words.specs.declared.asks.DealAsk.{DealAsk as DealAskOf}
 use Rattle.command_words.specs.declared.asks.ServeAsk.{ServeAsk as ServeAskOf}
 use Rattle.command_words.specs.declared.asks.ServeManyAsk.{ServeManyAsk as ServeManyAskOf}
 use Rattle.command_words.specs.declared.asks.ServeArithAsk.{ServeArithAsk as ServeArithAskOf}
+use Rattle.command_words.specs.declared.asks.ServePolyAsk.{ServePolyAsk as ServePolyAskOf}
 use Rattle.command_words.specs.declared.asks.ServeOptions.{ServeOptions as ServeOptionsOf}
 use Rattle.command_words.specs.declared.asks.ProveAsk.{ProveAsk as ProveAskOf}
 use Rattle.command_words.specs.declared.asks.ProveArithAsk.{ProveArithAsk as ProveArithAskOf}
+use Rattle.command_words.specs.declared.asks.ProvePolyAsk.{ProvePolyAsk as ProvePolyAskOf}
 use Rattle.command_words.specs.declared.asks.AuditAsk.{AuditAsk as AuditAskOf}
 use Rattle.command_words.specs.declared.asks.AuditArithAsk.{AuditArithAsk as AuditArithAskOf}
 use Rattle.command_words.specs.declared.asks.MigrateAsk.{MigrateAsk as MigrateAskOf}
@@ -62,6 +65,12 @@ RehearseArithAsk = RehearseArithAskOf (List ℕ)
 abbrev pub rehearse_arith_ask : List ℕ → List ℕ → Kind → ℕ → RehearseArithAsk
 rehearse_arith_ask circuit values kind section =
     record { circuit = circuit; values = values; kind = kind; section = section }
+
+abbrev pub RehearsePolyAsk : Type 0
+RehearsePolyAsk = RehearsePolyAskOf (List ℕ)
+
+abbrev pub rehearse_poly_ask : List ℕ → List ℕ → Kind → ℕ → RehearsePolyAsk
+rehearse_poly_ask text values kind section = record { text = text; values = values; kind = kind; section = section }
 
 abbrev pub EvalAsk : Type 0 → Type 0
 EvalAsk B = EvalAskOf (List ℕ) B
@@ -103,6 +112,12 @@ abbrev pub serve_arith_ask : List ℕ → List ℕ → List ℕ → List ℕ →
 serve_arith_ask address file circuit outputs options =
     record { address = address; file = file; circuit = circuit; outputs = outputs; options = options }
 
+abbrev pub ServePolyAsk : Type 0
+ServePolyAsk = ServePolyAskOf (List ℕ)
+
+abbrev pub serve_poly_ask : List ℕ → List ℕ → List ℕ → ServeOptions → ServePolyAsk
+serve_poly_ask address file text options = record { address = address; file = file; text = text; options = options }
+
 abbrev pub ProveAsk : Type 0 → Type 0
 ProveAsk B = ProveAskOf (List ℕ) B
 
@@ -116,6 +131,12 @@ ProveArithAsk = ProveArithAskOf (List ℕ)
 abbrev pub prove_arith_ask : List ℕ → List ℕ → List ℕ → List ℕ → List ℕ → ℕ → ProveArithAsk
 prove_arith_ask address file circuit values outputs timeout =
     record { address = address; file = file; circuit = circuit; values = values; outputs = outputs; timeout = timeout }
+
+abbrev pub ProvePolyAsk : Type 0
+ProvePolyAsk = ProvePolyAskOf (List ℕ)
+
+abbrev pub prove_poly_ask : List ℕ → List ℕ → List ℕ → List ℕ → ℕ → ProvePolyAsk
+prove_poly_ask address file text values timeout = record { address = address; file = file; text = text; values = values; timeout = timeout }
 
 abbrev pub AuditAsk : Type 0 → Type 0
 AuditAsk B = AuditAskOf (List ℕ) B
@@ -196,6 +217,11 @@ abbrev pub rehearse_arith_by : FromRow (row_of n.RehearseArith) (Option (Ask Bit
 rehearse_arith_by circuit values section extended =
     Some (a.RehearseArith (rehearse_arith_ask circuit values (kind_by extended) section))
 
+-- `rehearse-poly TEXT VALUES [--section G] [--extended]`
+abbrev pub rehearse_poly_by : FromRow (row_of n.RehearsePoly) (Option (Ask BitsAsk))
+rehearse_poly_by text values section extended =
+    Some (a.RehearsePoly (rehearse_poly_ask text values (kind_by extended) section))
+
 -- `eval CIRCUIT BITS`
 abbrev pub eval_by : FromRow (row_of n.Eval) (Option (Ask BitsAsk))
 eval_by circuit bits = Some (a.Eval (eval_ask circuit bits))
@@ -235,6 +261,11 @@ abbrev pub serve_arith_by : FromRow (row_of n.ServeArith) (Option (Ask BitsAsk))
 serve_arith_by address file circuit outputs sessions workers section timeout logs follow =
     Some (a.ServeArith (serve_arith_ask address file circuit outputs (serve_options sessions workers section timeout logs follow)))
 
+-- `serve-poly ADDRESS FILE TEXT --sessions N [--workers W] [--section G] [--timeout S] [--logs PREFIX] [--follow]`
+abbrev pub serve_poly_by : FromRow (row_of n.ServePoly) (Option (Ask BitsAsk))
+serve_poly_by address file text sessions workers section timeout logs follow =
+    Some (a.ServePoly (serve_poly_ask address file text (serve_options sessions workers section timeout logs follow)))
+
 -- `prove ADDRESS FILE CIRCUIT BITS OUTPUTS [--timeout S] [--public BITS]`
 abbrev pub prove_by : FromRow (row_of n.Prove) (Option (Ask BitsAsk))
 prove_by address file circuit bits outputs timeout public =
@@ -244,6 +275,10 @@ prove_by address file circuit bits outputs timeout public =
 abbrev pub prove_arith_by : FromRow (row_of n.ProveArith) (Option (Ask BitsAsk))
 prove_arith_by address file circuit values outputs timeout =
     Some (a.ProveArith (prove_arith_ask address file circuit values outputs timeout))
+
+-- `prove-poly ADDRESS FILE TEXT VALUES [--timeout S]`
+abbrev pub prove_poly_by : FromRow (row_of n.ProvePoly) (Option (Ask BitsAsk))
+prove_poly_by address file text values timeout = Some (a.ProvePoly (prove_poly_ask address file text values timeout))
 
 -- `audit CIRCUIT OUTPUTS PROVERFILE VERIFIERFILE LOG [--public BITS]`
 abbrev pub audit_by : FromRow (row_of n.Audit) (Option (Ask BitsAsk))
@@ -279,13 +314,16 @@ serve_node_by address broker file circuit outputs node sessions timeout follow =
 abbrev pub asks_by : (name : Name) → FromRow (row_of name) (Option (Ask BitsAsk))
 asks_by n.Rehearse = rehearse_by
 asks_by n.RehearseArith = rehearse_arith_by
+asks_by n.RehearsePoly = rehearse_poly_by
 asks_by n.Eval = eval_by
 asks_by n.Deal = deal_by
 asks_by n.Serve = serve_by
 asks_by n.ServeMany = serve_many_by
 asks_by n.ServeArith = serve_arith_by
+asks_by n.ServePoly = serve_poly_by
 asks_by n.Prove = prove_by
 asks_by n.ProveArith = prove_arith_by
+asks_by n.ProvePoly = prove_poly_by
 asks_by n.Audit = audit_by
 asks_by n.AuditArith = audit_arith_by
 asks_by n.Migrate = migrate_by

@@ -41,6 +41,16 @@ pub struct RehearseArithAsk<T> {
     pub section: u32,
 }
 
+/// A rehearsal of constraints: the file of their text, that of the values, the kind of the dealt files, and how many products a grant says
+/// that a section has.
+#[derive(Debug, Drop)]
+pub struct RehearsePolyAsk<T> {
+    pub text: T,
+    pub values: T,
+    pub kind: Kind,
+    pub section: u32,
+}
+
 /// An evaluation: the circuit's file and the bits.
 #[derive(Debug, Drop)]
 pub struct EvalAsk<T, B> {
@@ -100,6 +110,15 @@ pub struct ServeArithAsk<T> {
     pub options: ServeOptions<T>,
 }
 
+/// A verifier that serves constraints: where provers connect, the verifier's file, and the file of their text.
+#[derive(Debug, Drop)]
+pub struct ServePolyAsk<T> {
+    pub address: T,
+    pub file: T,
+    pub text: T,
+    pub options: ServeOptions<T>,
+}
+
 /// A prover: where the verifier listens, the prover's file, the circuit's file, the public input bits and the private ones, the claimed
 /// outputs, and for how many seconds a silent peer is waited for.
 #[derive(Debug, Drop)]
@@ -122,6 +141,17 @@ pub struct ProveArithAsk<T> {
     pub circuit: T,
     pub values: T,
     pub outputs: T,
+    pub timeout: u32,
+}
+
+/// A prover of constraints: where the verifier listens, the prover's file, the files of their text and of the values, and for how many
+/// seconds a silent peer is waited for.
+#[derive(Debug, Drop)]
+pub struct ProvePolyAsk<T> {
+    pub address: T,
+    pub file: T,
+    pub text: T,
+    pub values: T,
     pub timeout: u32,
 }
 
@@ -201,13 +231,16 @@ pub enum Ask<T, B> {
     Rehearse(RehearseAsk<T, B>),
     Generate(GenerateAsk),
     RehearseArith(RehearseArithAsk<T>),
+    RehearsePoly(RehearsePolyAsk<T>),
     Eval(EvalAsk<T, B>),
     Deal(DealAsk<T>),
     Serve(ServeAsk<T, B>),
     ServeMany(ServeManyAsk<T>),
     ServeArith(ServeArithAsk<T>),
+    ServePoly(ServePolyAsk<T>),
     Prove(ProveAsk<T, B>),
     ProveArith(ProveArithAsk<T>),
+    ProvePoly(ProvePolyAsk<T>),
     Audit(AuditAsk<T, B>),
     AuditArith(AuditArithAsk<T>),
     Migrate(MigrateAsk<T>),

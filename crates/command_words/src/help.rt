@@ -20,6 +20,8 @@ usage:
       runs a session of both ends in one process
   zk rehearse-arith CIRCUIT VALUES [--section G] [--extended]
       the same of an arithmetic circuit
+  zk rehearse-poly TEXT VALUES [--section G] [--extended]
+      the same of polynomial constraints
   zk serve ADDRESS FILE CIRCUIT OUTPUTS --sessions N [--workers W] [--section G] [--timeout S] [--logs PREFIX]
            [--follow] [--public BITS]
       verifies N provers that call over TCP
@@ -29,10 +31,14 @@ usage:
   zk serve-arith ADDRESS FILE CIRCUIT OUTPUTS --sessions N [--workers W] [--section G] [--timeout S] [--logs PREFIX]
            [--follow]
       as `zk serve`, about an arithmetic circuit
+  zk serve-poly ADDRESS FILE TEXT --sessions N [--workers W] [--section G] [--timeout S] [--logs PREFIX] [--follow]
+      as `zk serve`, about polynomial constraints
   zk prove ADDRESS FILE CIRCUIT BITS OUTPUTS [--timeout S] [--public BITS]
       proves to a verifier over TCP
   zk prove-arith ADDRESS FILE CIRCUIT VALUES OUTPUTS [--timeout S]
       the same about an arithmetic circuit
+  zk prove-poly ADDRESS FILE TEXT VALUES [--timeout S]
+      the same about polynomial constraints
   zk audit CIRCUIT OUTPUTS PROVERFILE VERIFIERFILE LOG [--public BITS]
       finds the inputs that an accepted session fixes, or why it fixes none
   zk audit-arith CIRCUIT OUTPUTS PROVERFILE VERIFIERFILE LOG
@@ -132,6 +138,23 @@ statuses: 0 accepted, 1 an assertion of the circuit fails, 3 the circuit, a valu
   the output failed, 7 memory was missing, 9 more units are needed than a session may have
 ";
 
+pub const REHEARSE_POLY: &str = "\
+usage: zk rehearse-poly TEXT VALUES [--section G] [--extended]
+
+As `zk rehearse`, over the polynomial constraints in the file TEXT: the numbers of variables and of constraints, and then
+for each constraint its number of terms, and for each term its coefficient, its number of factors, and the numbers of its
+factors' variables, from 0. Each constraint is to be 0 modulo 2^61 - 1. The file VALUES has the variables' values: numbers
+below 2^61 - 1 in decimal, with blanks between.
+
+  --section G      what the grant says of sections, 1 to 1048576, which is the default
+  --extended       deals extended files: 8 trees of height 10 and a base of 64
+
+example: zk rehearse-poly examples/square.txt examples/square.values
+
+statuses: 0 accepted, 1 a constraint is not met, 3 the constraints, a value or their number is refused, 4 a file or the
+  output failed, 7 memory was missing, 9 more units are needed than a session may have
+";
+
 pub const SERVE: &str = "\
 usage: zk serve ADDRESS FILE CIRCUIT OUTPUTS --sessions N [--workers W] [--section G] [--timeout S] [--logs PREFIX]
            [--follow] [--public BITS]
@@ -180,6 +203,16 @@ example: zk serve-arith 127.0.0.1:4000 /tmp/demo.verifier examples/balances.txt 
 options and statuses: those of `zk serve`, but for --public; 3 also where an output or their number is refused
 ";
 
+pub const SERVE_POLY: &str = "\
+usage: zk serve-poly ADDRESS FILE TEXT --sessions N [--workers W] [--section G] [--timeout S] [--logs PREFIX] [--follow]
+
+As `zk serve`, about polynomial constraints: that each prover knows values that meet all constraints in the file TEXT.
+
+example: zk serve-poly 127.0.0.1:4000 /tmp/demo.verifier examples/square.txt --sessions 1
+
+options and statuses: those of `zk serve`, but for --public; --section sets what the grant says alone
+";
+
 pub const PROVE: &str = "\
 usage: zk prove ADDRESS FILE CIRCUIT BITS OUTPUTS [--timeout S] [--public BITS]
 
@@ -208,6 +241,18 @@ example: zk prove-arith 127.0.0.1:4000 /tmp/demo.prover examples/balances.txt ex
 
 options and statuses: those of `zk prove`, but for --public; 1 also where the elements fail an assertion, and 3 where an
   element or their number is refused
+";
+
+pub const PROVE_POLY: &str = "\
+usage: zk prove-poly ADDRESS FILE TEXT VALUES [--timeout S]
+
+As `zk prove`, about polynomial constraints: that there are values that meet all constraints in the file TEXT. Those in the
+file VALUES are used: numbers below 2^61 - 1 in decimal, with blanks between.
+
+example: zk prove-poly 127.0.0.1:4000 /tmp/demo.prover examples/square.txt examples/square.values
+
+options and statuses: those of `zk prove`, but for --public; 1 also where a constraint is not met, and 3 where a value or
+  their number is refused
 ";
 
 pub const AUDIT: &str = "\

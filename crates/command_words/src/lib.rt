@@ -22,8 +22,9 @@ mod words;
 
 pub use asks::{
     Ask, AuditArithAsk, AuditAsk, BrokerAsk, Command, DealAsk, EvalAsk, GenerateAsk, MAX_SESSIONS,
-    MigrateAsk, NodeAsk, ProveArithAsk, ProveAsk, RehearseArithAsk, RehearseAsk, ServeArithAsk,
-    ServeAsk, ServeManyAsk, ServeNodeAsk, ServeOptions, StatusAsk,
+    MigrateAsk, NodeAsk, ProveArithAsk, ProveAsk, ProvePolyAsk, RehearseArithAsk, RehearseAsk,
+    RehearsePolyAsk, ServeArithAsk, ServeAsk, ServeManyAsk, ServeNodeAsk, ServeOptions,
+    ServePolyAsk, StatusAsk,
 };
 pub use bits::{BitsWord, read_bits, read_bits_word, write_bits};
 pub use help::help_text;

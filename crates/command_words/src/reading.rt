@@ -18,8 +18,9 @@ ghost use Rattle.zk_model.specs.declared.limits.TheConstants.{FILE_LIMIT};
 
 use crate::asks::{
     Ask, AuditArithAsk, AuditAsk, BrokerAsk, DealAsk, EvalAsk, GenerateAsk, MigrateAsk, NodeAsk,
-    ProveArithAsk, ProveAsk, RehearseArithAsk, RehearseAsk, SaidCommand, ServeArithAsk, ServeAsk,
-    ServeManyAsk, ServeNodeAsk, ServeOptions, StatusAsk,
+    ProveArithAsk, ProveAsk, ProvePolyAsk, RehearseArithAsk, RehearseAsk, RehearsePolyAsk,
+    SaidCommand, ServeArithAsk, ServeAsk, ServeManyAsk, ServeNodeAsk, ServeOptions, ServePolyAsk,
+    StatusAsk,
 };
 use crate::bits::{BitsWord, read_bits_word};
 use crate::found::{At, Found};
@@ -222,6 +223,19 @@ pub fn rehearse_arith(alloc: Global, found: &Found) -> Result<SaidCommand, Unrea
     }))
 }
 
+/// A rehearsal of constraints.
+pub fn rehearse_poly(alloc: Global, found: &Found) -> Result<SaidCommand, Unread>
+    ensures asked { IsReadTo (ask_of bits_ask) (asked_in name.RehearsePoly found.now) result }
+    ensures limits { IfOk result IsWithinLimits }
+{
+    Ok(Ask::RehearsePoly(RehearsePolyAsk {
+        text: found.text(alloc, At::Place(0))?,
+        values: found.text(alloc, At::Place(1))?,
+        section: found.number(SECTION)? as u32,
+        kind: kind(found.flag(EXTENDED)),
+    }))
+}
+
 /// An evaluation.
 pub fn eval(alloc: Global, found: &Found) -> Result<SaidCommand, Unread>
     ensures asked { IsReadTo (ask_of bits_ask) (asked_in name.Eval found.now) result }
@@ -350,6 +364,19 @@ pub fn serve_arith(alloc: Global, found: &Found) -> Result<SaidCommand, Unread>
     }))
 }
 
+/// A verifier that serves constraints.
+pub fn serve_poly(alloc: Global, found: &Found) -> Result<SaidCommand, Unread>
+    ensures asked { IsReadTo (ask_of bits_ask) (asked_in name.ServePoly found.now) result }
+    ensures limits { IfOk result IsWithinLimits }
+{
+    Ok(Ask::ServePoly(ServePolyAsk {
+        address: found.text(alloc, At::Place(0))?,
+        file: found.text(alloc, At::Place(1))?,
+        text: found.text(alloc, At::Place(2))?,
+        options: service(alloc, found)?,
+    }))
+}
+
 /// A prover.
 pub fn prove(alloc: Global, found: &Found) -> Result<SaidCommand, Unread>
     ensures asked { IsReadTo (ask_of bits_ask) (asked_in name.Prove found.now) result }
@@ -377,6 +404,20 @@ pub fn prove_arith(alloc: Global, found: &Found) -> Result<SaidCommand, Unread>
         circuit: found.text(alloc, At::Place(2))?,
         values: found.text(alloc, At::Place(3))?,
         outputs: found.text(alloc, At::Place(4))?,
+        timeout: found.number(TIMEOUT)? as u32,
+    }))
+}
+
+/// A prover of constraints.
+pub fn prove_poly(alloc: Global, found: &Found) -> Result<SaidCommand, Unread>
+    ensures asked { IsReadTo (ask_of bits_ask) (asked_in name.ProvePoly found.now) result }
+    ensures limits { IfOk result IsWithinLimits }
+{
+    Ok(Ask::ProvePoly(ProvePolyAsk {
+        address: found.text(alloc, At::Place(0))?,
+        file: found.text(alloc, At::Place(1))?,
+        text: found.text(alloc, At::Place(2))?,
+        values: found.text(alloc, At::Place(3))?,
         timeout: found.number(TIMEOUT)? as u32,
     }))
 }

@@ -74,6 +74,8 @@ pub const SIDE: TableColumn = Column("SIDE", Side, Always);
 
 pub const STATEMENTS: TableColumn = Column("STATEMENTS", Text, Always);
 
+pub const TEXT: TableColumn = Column("TEXT", Text, Always);
+
 pub const VALUES: TableColumn = Column("VALUES", Text, Always);
 
 pub const VERIFIER_FILE: TableColumn = Column("VERIFIERFILE", Text, Always);
@@ -138,6 +140,14 @@ pub const REHEARSE_ARITH: TableRow = Row {
     help: help::REHEARSE_ARITH,
 };
 
+pub const REHEARSE_POLY: TableRow = Row {
+    name: "rehearse-poly",
+    places: &[TEXT, VALUES],
+    options: &[SECTION],
+    flags: &[EXTENDED],
+    help: help::REHEARSE_POLY,
+};
+
 pub const EVAL: TableRow = Row {
     name: "eval",
     places: &[CIRCUIT, BITS],
@@ -178,6 +188,14 @@ pub const SERVE_ARITH: TableRow = Row {
     help: help::SERVE_ARITH,
 };
 
+pub const SERVE_POLY: TableRow = Row {
+    name: "serve-poly",
+    places: &[ADDRESS, FILE, TEXT],
+    options: &[SESSIONS, WORKERS, SECTION, TIMEOUT, LOGS],
+    flags: &[FOLLOW],
+    help: help::SERVE_POLY,
+};
+
 pub const PROVE: TableRow = Row {
     name: "prove",
     places: &[ADDRESS, FILE, CIRCUIT, BITS, OUTPUTS],
@@ -192,6 +210,14 @@ pub const PROVE_ARITH: TableRow = Row {
     options: &[TIMEOUT],
     flags: &[],
     help: help::PROVE_ARITH,
+};
+
+pub const PROVE_POLY: TableRow = Row {
+    name: "prove-poly",
+    places: &[ADDRESS, FILE, TEXT, VALUES],
+    options: &[TIMEOUT],
+    flags: &[],
+    help: help::PROVE_POLY,
 };
 
 pub const AUDIT: TableRow = Row {
@@ -255,13 +281,16 @@ pub const SERVE_NODE: TableRow = Row {
 pub enum Name {
     Rehearse,
     RehearseArith,
+    RehearsePoly,
     Eval,
     Deal,
     Serve,
     ServeMany,
     ServeArith,
+    ServePoly,
     Prove,
     ProveArith,
+    ProvePoly,
     Audit,
     AuditArith,
     Migrate,
@@ -275,13 +304,16 @@ pub enum Name {
 pub const NAMES: &[Name] = &[
     Name::Rehearse,
     Name::RehearseArith,
+    Name::RehearsePoly,
     Name::Eval,
     Name::Deal,
     Name::Serve,
     Name::ServeMany,
     Name::ServeArith,
+    Name::ServePoly,
     Name::Prove,
     Name::ProveArith,
+    Name::ProvePoly,
     Name::Audit,
     Name::AuditArith,
     Name::Migrate,
@@ -307,13 +339,16 @@ impl Name {
         match self {
             Name::Rehearse => REHEARSE,
             Name::RehearseArith => REHEARSE_ARITH,
+            Name::RehearsePoly => REHEARSE_POLY,
             Name::Eval => EVAL,
             Name::Deal => DEAL,
             Name::Serve => SERVE,
             Name::ServeMany => SERVE_MANY,
             Name::ServeArith => SERVE_ARITH,
+            Name::ServePoly => SERVE_POLY,
             Name::Prove => PROVE,
             Name::ProveArith => PROVE_ARITH,
+            Name::ProvePoly => PROVE_POLY,
             Name::Audit => AUDIT,
             Name::AuditArith => AUDIT_ARITH,
             Name::Migrate => MIGRATE,

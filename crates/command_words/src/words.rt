@@ -11,8 +11,9 @@ use crate::asks::{Command, SaidCommand};
 use crate::bits::BitsWord;
 use crate::found::{Found, find_words};
 use crate::reading::{
-    Unread, audit, audit_arith, broker, deal, eval, migrate, node, prove, prove_arith, rehearse,
-    rehearse_arith, serve, serve_arith, serve_many, serve_node, status,
+    Unread, audit, audit_arith, broker, deal, eval, migrate, node, prove, prove_arith, prove_poly,
+    rehearse, rehearse_arith, rehearse_poly, serve, serve_arith, serve_many, serve_node,
+    serve_poly, status,
 };
 use crate::table::Name;
 use std::alloc::{AllocError, Global};
@@ -64,13 +65,16 @@ fn read_found(alloc: Global, name: Name, found: &Found) -> Result<SaidCommand, U
     match name {
         Name::Rehearse => rehearse(alloc, found),
         Name::RehearseArith => rehearse_arith(alloc, found),
+        Name::RehearsePoly => rehearse_poly(alloc, found),
         Name::Eval => eval(alloc, found),
         Name::Deal => deal(alloc, found),
         Name::Serve => serve(alloc, found),
         Name::ServeMany => serve_many(alloc, found),
         Name::ServeArith => serve_arith(alloc, found),
+        Name::ServePoly => serve_poly(alloc, found),
         Name::Prove => prove(alloc, found),
         Name::ProveArith => prove_arith(alloc, found),
+        Name::ProvePoly => prove_poly(alloc, found),
         Name::Audit => audit(alloc, found),
         Name::AuditArith => audit_arith(alloc, found),
         Name::Migrate => migrate(alloc, found),

@@ -5,7 +5,7 @@ use Rattle.zk_model.specs.Circuit.{Circuit}
 use Rattle.zk_port.specs.Files.{Files}
 use Rattle.command_words.specs.BitWords.{Bits, BitsAsk, said, named, bits_word}
 use Rattle.command_words.specs.Words.{Ask, rehearse_ask, eval_ask, serve_ask, serve_node_ask, prove_ask, audit_ask}
-use Rattle.command_words.specs.declared.asks.Ask.TheVariants.{Rehearse as rehearse, Generate as generate, RehearseArith as rehearse_arith, Eval as eval, Deal as deal, Serve as serve, ServeMany as serve_many, ServeArith as serve_arith, Prove as prove, ProveArith as prove_arith, Audit as audit, AuditArith as audit_arith, Migrate as migrate, Status as status, Node as node, Broker as broker, ServeNode as serve_node}
+use Rattle.command_words.specs.declared.asks.Ask.TheVariants.{Rehearse as rehearse, Generate as generate, RehearseArith as rehearse_arith, RehearsePoly as rehearse_poly, Eval as eval, Deal as deal, Serve as serve, ServeMany as serve_many, ServeArith as serve_arith, ServePoly as serve_poly, Prove as prove, ProveArith as prove_arith, ProvePoly as prove_poly, Audit as audit, AuditArith as audit_arith, Migrate as migrate, Status as status, Node as node, Broker as broker, ServeNode as serve_node}
 use Rattle.file_commands.specs.Effects.{ShelfChange}
 use Rattle.file_commands.specs.Stops.{HasText, HasCircuit, LoadStop, CircuitStop}
 use Rattle.file_commands.specs.declared.refusal.Refusal.{Refusal}
@@ -40,6 +40,7 @@ IsAskGiven told (rehearse ask) given =
     × (given ≡ rehearse (rehearse_ask ask.circuit public bits ask.kind ask.section))
 IsAskGiven told (generate ask) given = given ≡ generate ask
 IsAskGiven told (rehearse_arith ask) given = given ≡ rehearse_arith ask
+IsAskGiven told (rehearse_poly ask) given = given ≡ rehearse_poly ask
 IsAskGiven told (eval ask) given =
     (bits : Bits) × AreGiven told ask.bits bits × (given ≡ eval (eval_ask ask.circuit bits))
 IsAskGiven told (deal ask) given = given ≡ deal ask
@@ -48,11 +49,13 @@ IsAskGiven told (serve ask) given =
     × (given ≡ serve (serve_ask ask.address ask.file ask.circuit public outputs ask.options))
 IsAskGiven told (serve_many ask) given = given ≡ serve_many ask
 IsAskGiven told (serve_arith ask) given = given ≡ serve_arith ask
+IsAskGiven told (serve_poly ask) given = given ≡ serve_poly ask
 IsAskGiven told (prove ask) given =
     (public : Bits) × (bits : Bits) × (outputs : Bits)
     × AreGiven told ask.public public × AreGiven told ask.bits bits × AreGiven told ask.outputs outputs
     × (given ≡ prove (prove_ask ask.address ask.file ask.circuit public bits outputs ask.timeout))
 IsAskGiven told (prove_arith ask) given = given ≡ prove_arith ask
+IsAskGiven told (prove_poly ask) given = given ≡ prove_poly ask
 IsAskGiven told (audit ask) given =
     (public : Bits) × (outputs : Bits) × AreGiven told ask.public public × AreGiven told ask.outputs outputs
     × (given ≡ audit (audit_ask ask.circuit public outputs ask.prover ask.verifier ask.log))

@@ -24,6 +24,8 @@ use Rattle.dealer_files.specs.declared.fault.FileFault.{FileFault}
 use Rattle.dealer_files.specs.declared.fault.FileFault.TheVariants as file
 use Rattle.element_file.specs.declared.fault.ElementsFault.{ElementsFault}
 use Rattle.element_file.specs.declared.fault.ElementsFault.TheVariants as element
+use Rattle.poly_text.specs.declared.fault.PolyFault.{PolyFault}
+use Rattle.poly_text.specs.declared.fault.PolyFault.TheVariants as constraints
 use Rattle.file_commands.specs.Effects.{DoorChange, ShelfChange, SinkChange, NameFailed, SinkFailed, Effects, HasFailed}
 use Rattle.file_commands.specs.declared.refusal.Refusal.{Refusal}
 use Rattle.file_commands.specs.declared.refusal.Refusal.TheVariants as stop
@@ -84,9 +86,17 @@ abbrev pub elements_line : ElementsFault → List ℕ
 elements_line (element.BadValue token) = refused_line (codes "BadValue 1") token
 elements_line (element.Count need got) = pair_line (codes "refused Count 2") need got
 
+-- of a text of constraints
+abbrev pub poly_line : PolyFault → List ℕ
+poly_line (constraints.ShortText token) = refused_line (codes "ShortText 1") token
+poly_line (constraints.BadNumber token) = refused_line (codes "BadNumber 2") token
+poly_line (constraints.TooLarge token) = refused_line (codes "TooLarge 3") token
+poly_line (constraints.VarRange token) = refused_line (codes "VarRange 4") token
+poly_line (constraints.ExtraText token) = refused_line (codes "ExtraText 5") token
+
 -- the line that is written
 abbrev pub stop_line : Refusal → List ℕ
-stop_line stop.Usage = codes "usage: zk deal, eval, rehearse, prove, serve, serve-many, migrate, status, rehearse-arith, prove-arith, serve-arith, audit-arith, node, broker, serve-node or audit\n"
+stop_line stop.Usage = codes "usage: zk deal, eval, rehearse, prove, serve, serve-many, migrate, status, rehearse-poly, prove-poly, serve-poly, rehearse-arith, prove-arith, serve-arith, audit-arith, node, broker, serve-node or audit\n"
 stop_line (stop.BadText fault) = fault_line fault
 stop_line (stop.BadFile fault) = file_line fault
 stop_line (stop.TooLong limit) = refused_line (codes "TooLong 0") limit
@@ -94,6 +104,7 @@ stop_line (stop.ManyPublic inputs got) = pair_line (codes "refused public") inpu
 stop_line (stop.WrongBits need got) = pair_line (codes "refused bits") need got
 stop_line (stop.WrongOutputs need got) = pair_line (codes "refused outputs") need got
 stop_line (stop.BadElements fault) = elements_line fault
+stop_line (stop.BadConstraints fault) = poly_line fault
 stop_line (stop.Unsatisfied output) = codes "unsatisfied " ++ decimal output ++ codes "\n"
 stop_line (stop.TooLarge need units) = pair_line (codes "too large") need units
 stop_line (stop.NotDealt unit) = refused_line (codes "NotDealt 8") unit
@@ -119,6 +130,7 @@ stop_status (stop.ManyPublic inputs got) = 3
 stop_status (stop.WrongBits need got) = 3
 stop_status (stop.WrongOutputs need got) = 3
 stop_status (stop.BadElements fault) = 3
+stop_status (stop.BadConstraints fault) = 3
 stop_status (stop.Unsatisfied output) = 1
 stop_status (stop.NotDealt unit) = 3
 stop_status (stop.BadLog place) = 3

@@ -245,6 +245,7 @@ pub fn read_given<F: Shelf>(
         }
         Ask::Generate(ask) => Ok(Ask::Generate(ask)),
         Ask::RehearseArith(ask) => Ok(Ask::RehearseArith(ask)),
+        Ask::RehearsePoly(ask) => Ok(Ask::RehearsePoly(ask)),
         Ask::Eval(ask) => {
             let wanted = WantedBits::Private(&[]);
             let bits = word_bits(alloc, shelf, ask.bits, wanted, &ask.circuit)?;
@@ -263,6 +264,7 @@ pub fn read_given<F: Shelf>(
         }
         Ask::ServeMany(ask) => Ok(Ask::ServeMany(ask)),
         Ask::ServeArith(ask) => Ok(Ask::ServeArith(ask)),
+        Ask::ServePoly(ask) => Ok(Ask::ServePoly(ask)),
         Ask::Prove(ask) => {
             let (public, bits) = input_bits(alloc, shelf, ask.public, ask.bits, &ask.circuit)?;
             let outputs = word_bits(alloc, shelf, ask.outputs, WantedBits::Outputs, &ask.circuit)?;
@@ -271,6 +273,7 @@ pub fn read_given<F: Shelf>(
             ))
         }
         Ask::ProveArith(ask) => Ok(Ask::ProveArith(ask)),
+        Ask::ProvePoly(ask) => Ok(Ask::ProvePoly(ask)),
         Ask::Audit(ask) => {
             let (public, outputs) = claimed_bits(
                 alloc,

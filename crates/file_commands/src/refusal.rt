@@ -5,6 +5,7 @@ ghost use Rattle.file_commands.specs.declared.refusal.Refusal.TheVariants as sto
 use bristol_reader::ReadFault;
 use dealer_files::FileFault;
 use element_file::ElementsFault;
+use poly_text::PolyFault;
 use std::alloc::AllocError;
 
 /// Why a run stops before its work is done; each has its status and its line.
@@ -28,7 +29,10 @@ pub enum Refusal {
     WrongOutputs { need: u64, got: u64 },
     /// A file of elements is refused.
     BadElements(ElementsFault),
-    /// The circuit gives another value than this claimed output, or does not meet an assertion: they count on behind the outputs.
+    /// A text of constraints is refused.
+    BadConstraints(PolyFault),
+    /// The circuit gives another value than this claimed output, or does not meet an assertion: they count on behind the outputs. Or the
+    /// values do not meet this constraint.
     Unsatisfied { output: u64 },
     /// The session needs so many correlations, and units of them above 4,096.
     TooLarge { need: u64, units: u64 },

@@ -1,13 +1,14 @@
 // Writes what a run has to say.
 ghost use Rattle.std.specs.Prelude.{◌≡◌, IfOk, string_bytes};
 ghost use Rattle.zk_port.specs.Changes.{change};
-ghost use Rattle.file_commands.specs.Stops.{Prints, PrintsMade, stop_line, stop_status, fault_line, file_line, pair_line, refused_line, elements_line};
+ghost use Rattle.file_commands.specs.Stops.{Prints, PrintsMade, stop_line, stop_status, fault_line, file_line, pair_line, poly_line, refused_line, elements_line};
 ghost use Rattle.file_commands.specs.declared.refusal.Refusal.TheVariants.{NoMemory};
 
 use crate::refusal::Refusal;
 use bristol_reader::ReadFault;
 use dealer_files::FileFault;
 use element_file::ElementsFault;
+use poly_text::PolyFault;
 use std::alloc::{AllocError, Global};
 use zk_port::{PortFault, Sink};
 
@@ -88,6 +89,19 @@ fn write_elements_fault(alloc: Global, fault: ElementsFault) -> Result<String, A
     }
 }
 
+/// The line that says the fault of a text of constraints.
+fn write_poly_fault(alloc: Global, fault: PolyFault) -> Result<String, AllocError>
+    ensures { IfOk result (λ line. string_bytes line ≡ poly_line fault) }
+{
+    match fault {
+        PolyFault::ShortText { token } => write_refused(alloc, "ShortText 1", token),
+        PolyFault::BadNumber { token } => write_refused(alloc, "BadNumber 2", token),
+        PolyFault::TooLarge { token } => write_refused(alloc, "TooLarge 3", token),
+        PolyFault::VarRange { token } => write_refused(alloc, "VarRange 4", token),
+        PolyFault::ExtraText { token } => write_refused(alloc, "ExtraText 5", token),
+    }
+}
+
 /// The line of the stop.
 fn write_stop(alloc: Global, stop: Refusal) -> Result<String, AllocError>
     ensures { IfOk result (λ line. string_bytes line ≡ stop_line stop) }
@@ -96,7 +110,7 @@ fn write_stop(alloc: Global, stop: Refusal) -> Result<String, AllocError>
         Refusal::Usage => {
             String::from_str(
                 alloc,
-                "usage: zk deal, eval, rehearse, prove, serve, serve-many, migrate, status, rehearse-arith, prove-arith, serve-arith, audit-arith, node, broker, serve-node or audit\n",
+                "usage: zk deal, eval, rehearse, prove, serve, serve-many, migrate, status, rehearse-poly, prove-poly, serve-poly, rehearse-arith, prove-arith, serve-arith, audit-arith, node, broker, serve-node or audit\n",
             )
         }
         Refusal::BadText(fault) => write_fault(alloc, fault),
@@ -106,6 +120,7 @@ fn write_stop(alloc: Global, stop: Refusal) -> Result<String, AllocError>
         Refusal::WrongBits { need, got } => write_pair(alloc, "refused bits", need, got),
         Refusal::WrongOutputs { need, got } => write_pair(alloc, "refused outputs", need, got),
         Refusal::BadElements(fault) => write_elements_fault(alloc, fault),
+        Refusal::BadConstraints(fault) => write_poly_fault(alloc, fault),
         Refusal::Unsatisfied { output } => Ok(format!(in alloc; "unsatisfied {output}\n")?),
         Refusal::TooLarge { need, units } => write_pair(alloc, "too large", need, units),
         Refusal::NotDealt { unit } => write_refused(alloc, "NotDealt 8", unit),
@@ -137,6 +152,7 @@ fn status_of(stop: Refusal) -> u8
         | Refusal::WrongBits { .. }
         | Refusal::WrongOutputs { .. }
         | Refusal::BadElements(_)
+        | Refusal::BadConstraints(_)
         | Refusal::NotDealt { .. }
         | Refusal::BadLog { .. }
         | Refusal::StatementLine { .. }

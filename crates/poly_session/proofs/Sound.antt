@@ -11,7 +11,7 @@ use Rattle.mersenne_field.proofs.FieldLaws.{corrected_key-fitting}
 use Rattle.poly_session.specs.PolyClaims.{AnswersBy, masks_of, poly_claim}
 
 -- keys that were corrected fit pairs that were
-corrected_keys_fit : (key : ℕ) (pairs : List Pair) (ds : List ℕ)
+pub corrected_keys_fit : (key : ℕ) (pairs : List Pair) (ds : List ℕ)
     → corrected_keys key (map (fitting_key key) pairs) ds ≡ map (fitting_key key) (corrected_pairs pairs ds)
 corrected_keys_fit key [] ds = refl
 corrected_keys_fit key (pair ∷ pairs) [] = refl
@@ -27,7 +27,7 @@ drop_map f zero items = refl
 drop_map f (suc n) [] = refl
 drop_map f (suc n) (item ∷ items) = drop_map f n items
 
-masks_fit : (constraints : Constraints) (key : ℕ) (pairs : List Pair) → masks_of constraints (map (fitting_key key) pairs) ≡ map (fitting_key key) (masks_of constraints pairs)
+pub masks_fit : (constraints : Constraints) (key : ℕ) (pairs : List Pair) → masks_of constraints (map (fitting_key key) pairs) ≡ map (fitting_key key) (masks_of constraints pairs)
 masks_fit constraints key pairs =
     ap (take (degree constraints - 1)) (drop_map (fitting_key key) constraints.variables pairs)
     ∙ take_map (fitting_key key) (degree constraints - 1) (drop constraints.variables pairs)

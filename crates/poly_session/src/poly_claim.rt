@@ -167,6 +167,8 @@ impl<'a> Claim for PolyClaim<'a> {
         check_shows();
     }
 
+    fn is_decided(&self) {}
+
     fn answers(&self, alloc: Global, _section: u32) -> Result<Vec<Expect>, AllocError> {
         let count = self.polys.degree();
         let mut places = Vec::new(alloc);

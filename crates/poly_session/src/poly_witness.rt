@@ -139,6 +139,10 @@ impl<'a> Claim for PolyWitness<'a> {
         self.claim.is_sound();
     }
 
+    fn is_decided(&self) {
+        self.claim.is_decided();
+    }
+
     fn answers(&self, alloc: Global, section: u32) -> Result<Vec<Expect>, AllocError> {
         self.claim.answers(alloc, section)
     }

@@ -34,7 +34,7 @@ mac_back mac more element =
     minus-negative (mac +ₚ more) more ∙ plus_assoc mac more (0 -ₚ more)
     ∙ ap (λ n. mac +ₚ n) (plus-minus 0 more (lit< tt)) ∙ plus-zero mac element
 
-pairs_back : (key : ℕ) (pairs : List Pair) → All (λ pair. IsElement pair.x × IsElement pair.m) pairs
+pub pairs_back : (key : ℕ) (pairs : List Pair) → All (λ pair. IsElement pair.x × IsElement pair.m) pairs
     → fitted_pairs key (values_of pairs) (map (fitting_key key) pairs) ≡ pairs
 pairs_back key [] elements = refl
 pairs_back key (pair ∷ pairs) elements = λ i.
@@ -44,10 +44,10 @@ pairs_back key (pair ∷ pairs) elements = λ i.
 -- ---- the values of a session's pairs
 
 -- the setup of a session of kind extended
-abbrev one_round : Hello → Grant → List (List TreeAsk) → List (List TreeReply) → Setup
+abbrev pub one_round : Hello → Grant → List (List TreeAsk) → List (List TreeReply) → Setup
 one_round greeting given asked replied = record { hello = greeting; grant = given; rounds = rounds_read Extended asked replied }
 
-session_values : (prover : ProverFile) (greeting : Hello) (given : Grant) (asked : List (List TreeAsk)) (replied : List (List TreeReply))
+pub session_values : (prover : ProverFile) (greeting : Hello) (given : Grant) (asked : List (List TreeAsk)) (replied : List (List TreeReply))
     (pairs : List Pair) → IsProverFile prover → given.start + given.count ≤ prover.params.total
     → IsProverView prover (one_round greeting given asked replied) pairs
     → values_of pairs ≡ round_values prover given.start asked given.count

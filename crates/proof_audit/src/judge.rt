@@ -65,7 +65,7 @@ fn same_messages(some: &[BlockPair], others: &[BlockPair]) -> bool
 }
 
 /// Whether two lists of replies are one.
-fn same_replies(some: &[TreeReply], others: &[TreeReply]) -> bool
+pub fn same_replies(some: &[TreeReply], others: &[TreeReply]) -> bool
     ensures { IsTrue result ↔ some.now ≡ others.now }
 {
     if some.len() != others.len() {

@@ -27,4 +27,8 @@ pub use audit_command::{run_audit, run_audit_arith};
 pub use auditing::audit;
 pub use check_findings::Finding;
 pub use fault::AuditFault;
+pub use judge::same_replies;
 pub use laws::{accepted_logs_are_right, found_shows_outputs, one_answer, whole_logs_are_right};
+pub use pairs::fitted_pairs;
+pub use reading::LogReader;
+pub use values::round_values;

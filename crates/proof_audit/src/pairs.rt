@@ -15,7 +15,16 @@ use std::alloc::{AllocError, Global};
 use zk_model::{Kind, Span};
 
 /// Pairs of these values, whose MACs fit these keys under the verifier's one key.
-fn fitted_pairs(alloc: Global, values: &[Fe], keys: &[Fe], key: Fe) -> Result<Vec<Pair>, AllocError>
+///
+/// # Errors
+///
+/// Only where memory runs out.
+pub fn fitted_pairs(
+    alloc: Global,
+    values: &[Fe],
+    keys: &[Fe],
+    key: Fe,
+) -> Result<Vec<Pair>, AllocError>
     ensures { IfOk result (λ pairs. pairs.items ≡ fitted_pairs key values.now keys.now) }
 {
     values

@@ -10,7 +10,7 @@ use std::alloc::Global;
 
 /// Reads frames from the bytes of a log, one after another.
 #[derive(Drop)]
-pub(crate) struct LogReader<'a> {
+pub struct LogReader<'a> {
     decoder: Decoder,
     rest: &'a [u8],
 }

@@ -143,7 +143,11 @@ fn unit_values(
 }
 
 /// The values of the pairs of all units of a grant after these asks, unit by unit.
-pub(crate) fn round_values(
+///
+/// # Errors
+///
+/// Only where memory runs out.
+pub fn round_values(
     alloc: Global,
     file: &ProverFile,
     start: u64,

@@ -50,7 +50,7 @@ use Rattle.prove_command.specs.declared.proof.ProofNames.TheVariants as names
 
 -- ---- what the status says
 
-is_accepted : (outcome : ProverOutcome) → (outcome ≡ ended.Accepted) ⊎ (outcome ≢ ended.Accepted)
+pub is_accepted : (outcome : ProverOutcome) → (outcome ≡ ended.Accepted) ⊎ (outcome ≢ ended.Accepted)
 is_accepted ended.Accepted = inl refl
 is_accepted (ended.Rejected code number) = inr (λ same. cc)
 is_accepted (ended.PeerEnded at) = inr (λ same. cc)

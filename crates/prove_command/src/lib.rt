@@ -16,4 +16,5 @@ mod proved_line;
 mod witness;
 
 pub use proof::{BitsProof, ElementsProof, Proof, ProofNames};
-pub use prove_command::{ProveEnd, run_prove};
+pub use prove_command::{ProveEnd, connect_stop, run_prove};
+pub use proved_line::say_proved;

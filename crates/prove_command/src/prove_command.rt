@@ -71,7 +71,7 @@ fn load_all<R: Threads + Sync, F: Shelf>(
 }
 
 /// Why there is no link.
-fn connect_stop(fault: PortFault) -> Refusal
+pub fn connect_stop(fault: PortFault) -> Refusal
     ensures { result ≡ connect_refusal fault }
 {
     match fault {

@@ -5,4 +5,4 @@ use Rattle.run_laws.specs.CommandTable.{TableIs}
 
 pub table_is : TableIs
 unfolding named
-table_is = (refl, refl, refl, refl, refl, refl, refl, refl, refl, refl, refl, refl, refl, refl, refl, refl)
+table_is = (refl, refl, refl, refl, refl, refl, refl, refl, refl, refl, refl, refl, refl, refl, refl, refl, refl, refl, refl)

@@ -37,13 +37,18 @@ TableIs =
     (codes "extended" ∷ [])
     × HasWords (codes "rehearse-arith") (codes "CIRCUIT" ∷ codes "VALUES" ∷ []) ((codes "section", Some (codes "1048576")) ∷ [])
     (codes "extended" ∷ [])
+    × HasWords (codes "rehearse-poly") (codes "TEXT" ∷ codes "VALUES" ∷ []) ((codes "section", Some (codes "1048576")) ∷ [])
+    (codes "extended" ∷ [])
     × HasWords (codes "serve") (end_words (codes "OUTPUTS" ∷ [])) ((codes "public", Some (codes "none")) ∷ service_words)
     (codes "follow" ∷ [])
     × HasWords (codes "serve-many") (codes "ADDRESS" ∷ codes "FILE" ∷ codes "STATEMENTS" ∷ []) service_words (codes "follow" ∷ [])
     × HasWords (codes "serve-arith") (end_words (codes "OUTPUTS" ∷ [])) service_words (codes "follow" ∷ [])
+    × HasWords (codes "serve-poly") (codes "ADDRESS" ∷ codes "FILE" ∷ codes "TEXT" ∷ []) service_words (codes "follow" ∷ [])
     × HasWords (codes "prove") (end_words (codes "BITS" ∷ codes "OUTPUTS" ∷ []))
     ((codes "timeout", Some (codes "120")) ∷ (codes "public", Some (codes "none")) ∷ []) []
     × HasWords (codes "prove-arith") (end_words (codes "VALUES" ∷ codes "OUTPUTS" ∷ [])) ((codes "timeout", Some (codes "120")) ∷ []) []
+    × HasWords (codes "prove-poly") (codes "ADDRESS" ∷ codes "FILE" ∷ codes "TEXT" ∷ codes "VALUES" ∷ [])
+    ((codes "timeout", Some (codes "120")) ∷ []) []
     × HasWords (codes "audit") (codes "CIRCUIT" ∷ codes "OUTPUTS" ∷ codes "PROVERFILE" ∷ codes "VERIFIERFILE" ∷ codes "LOG" ∷ [])
     ((codes "public", Some (codes "none")) ∷ []) []
     × HasWords (codes "audit-arith") (codes "CIRCUIT" ∷ codes "OUTPUTS" ∷ codes "PROVERFILE" ∷ codes "VERIFIERFILE" ∷ codes "LOG" ∷ [])

@@ -1,11 +1,12 @@
 -- What a session proves, as a claim: how a hello names it, what it commits, where the prover answers, its check, and what acceptance shows.
-use Rattle.std.specs.Prelude.{ℕ, ◌+◌, ◌≤◌, List, [], ◌∷◌, length}
+use Rattle.std.specs.Prelude.{◌≡◌, ℕ, ◌+◌, ◌≤◌, List, [], ◌∷◌, length}
 use Rattle.zk_model.specs.Field.{IsElement}
 use Rattle.zk_model.specs.Mac.{Pair, AreKeysOf}
 use Rattle.zk_model.specs.Transcript.{Hello}
 use Rattle.zk_model.specs.Frames.{Frame, Allows, AreElements}
 use Rattle.zk_model.specs.declared.Expect.{Expect}
 use Rattle.zk_model.specs.declared.Expect.TheVariants as expect
+use Rattle.session_core.specs.Judgements.{verdict_in}
 use Rattle.session_core.specs.declared.fault.HelloDiffers.{HelloDiffers}
 use Rattle.session_core.specs.declared.judgement.Judgement.{Judgement}
 use Rattle.session_core.specs.declared.judgement.Judgement.TheVariants.{Accepted}
@@ -79,3 +80,9 @@ abbrev pub IsSound : Claim → Type 0
 IsSound claim = (key : ℕ) (pairs : List Pair) (keys : List ℕ) (exchange : Exchange)
     → IsElement key → AreKeysOf key pairs keys → claim_needs claim exchange.section_length ≤ length keys
     → IsExchange claim exchange → claim.judges key keys exchange Accepted → claim.shows pairs exchange key
+
+-- A hello that differs is none for a claim, and what is found of an exchange by the same keys says one verdict.
+pub record IsDecided (claim : Claim) : Type 0 where
+  pub hellos : (id : List ℕ) (said : Hello) (difference : HelloDiffers) → claim.differs id said difference → ¬ claim.greets id said
+  pub verdicts : (key : ℕ) (keys : List ℕ) (exchange : Exchange) (one other : Judgement) → claim.judges key keys exchange one
+      → claim.judges key keys exchange other → verdict_in one ≡ verdict_in other

@@ -9,7 +9,7 @@ ghost use Rattle.zk_model.specs.declared.Expect.TheVariants as expect;
 ghost use Rattle.proof_frames.specs.Frames.{frame_value};
 ghost use Rattle.proof_frames.specs.Readings.{IsShortPlace};
 ghost use Rattle.session_script.specs.Scripts.{weight};
-ghost use Rattle.session_claim.specs.Claims.{HasPlaces, IsExchange, IsSound, claim_needs};
+ghost use Rattle.session_claim.specs.Claims.{HasPlaces, IsDecided, IsExchange, IsSound, claim_needs};
 
 use mersenne_field::Fe;
 use proof_frames::{Frame, Hello};
@@ -53,6 +53,10 @@ pub trait Claim {
     /// That acceptance shows what it says.
     fn is_sound(&self)
         ensures { IsSound (claim self.now) };
+
+    /// That a hello that differs is not for it, and that an exchange has one verdict.
+    fn is_decided(&self)
+        ensures { IsDecided (claim self.now) };
 
     /// The places of the prover's answers, for sections of this length.
     ///

@@ -1,11 +1,15 @@
 // What passes between both ends of a session: each turn is answered by the other end.
-ghost use Rattle.std.specs.Prelude.{◌≡◌, ◌+◌, ◌*◌, ◌≤◌, ℕ, [], List, length, IfOk, IfSome, Ok};
+ghost use Rattle.std.specs.Prelude.{◌≡◌, ◌+◌, ◌*◌, ◌≤◌, ℕ, [], List, length, map, IfOk, IfSome, Ok};
 ghost use Rattle.zk_model.specs.Correlations.{span_keys};
 ghost use Rattle.zk_model.specs.Files.{AreDealt, correlations_per_unit};
+ghost use Rattle.zk_model.specs.Frames as model;
+ghost use Rattle.zk_model.specs.HonestProver.{round_asks};
+ghost use Rattle.zk_model.specs.ServedVerifier.{round_replies};
 ghost use Rattle.zk_model.specs.Transcript.{Round, IsGrant};
 ghost use Rattle.zk_model.specs.View.{span_of};
 ghost use Rattle.zk_model.specs.declared.Kind.TheVariants.{Extended};
 ghost use Rattle.zk_model.specs.declared.Side.{Side};
+ghost use Rattle.proof_frames.specs.Frames.{frame_value};
 ghost use Rattle.wire_auth.specs.Held.{items_in};
 ghost use Rattle.wire_auth.specs.Values.{given_made};
 ghost use Rattle.session_core.specs.Ends.{whole_grant};
@@ -47,11 +51,11 @@ pub(crate) struct SessionValues {
 
 /// What the rounds after a grant leave both ends with, and the frames of these rounds.
 #[derive(Drop)]
-struct Correlated<'p, 'v> {
-    asked: Vec<Frame>,
-    replied: Vec<Frame>,
-    pairs: Correlations<'p, Pair>,
-    keys: Correlations<'v, Fe>,
+pub struct Correlated<'p, 'v> {
+    pub asked: Vec<Frame>,
+    pub replied: Vec<Frame>,
+    pub pairs: Correlations<'p, Pair>,
+    pub keys: Correlations<'v, Fe>,
 }
 
 /// What both ends have said once the prover has answered the challenge, and what the verifier has by then.
@@ -160,7 +164,11 @@ fn establish<'p, 'v, R: Threads + Sync>(
 
 /// The round of all units of a grant: all asks, and all replies. Both files have one code, whose columns are made once. Several threads do
 /// the rounds.
-fn extend<'p, 'v, R: Threads + Sync>(
+///
+/// # Errors
+///
+/// Only where memory runs out.
+pub fn extend<'p, 'v, R: Threads + Sync>(
     rt: &R,
     alloc: Global,
     prover: &'p ProverFile,
@@ -173,6 +181,9 @@ fn extend<'p, 'v, R: Threads + Sync>(
     requires within { grant.start + grant.count ≤ verifier.now.params.total }
     ensures held { IfOk result (λ e. HoldsRounds prover.now verifier.now grant
         (items_in e.pairs) [] (round_log e.asked.items e.replied.items)) }
+    ensures asked { IfOk result (λ e. map frame_value e.asked.items ≡ map model.asks (round_asks prover.now grant)) }
+    ensures replied { IfOk result (λ e. map frame_value e.replied.items
+        ≡ map model.replies (round_replies verifier.now grant (round_asks prover.now grant))) }
     ensures short { IfOk result (λ e. AreShort e.asked.items e.replied.items) }
     ensures pairs { IfOk result (λ e. length (items_in e.pairs)
         ≡ grant.count * correlations_per_unit prover.now.params) }

@@ -20,6 +20,7 @@ mod rehearsing;
 pub use arith_rehearsing::rehearse_arith;
 pub use bits::Bits;
 pub use elements::Elements;
+pub use exchange::{Correlated, extend};
 pub use rehearsal::{ArithRehearseFault, Rehearsal, RehearseFault};
-pub use rehearsing::rehearse;
+pub use rehearsing::{rehearse, rehearsed_params};
 pub use zk_model::Verdict;

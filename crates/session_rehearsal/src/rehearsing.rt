@@ -34,7 +34,7 @@ use zk_model::{Kind, MAX_UNITS, Params};
 
 /// What the files of a rehearsal are dealt for: this many units, in kind extended with 8 trees of height 10 and 64 base
 /// correlations for the code.
-fn rehearsed_params(kind: Kind, total: u64) -> Params
+pub fn rehearsed_params(kind: Kind, total: u64) -> Params
     ensures { result ≡ rehearsed_params kind total }
 {
     let (height, trees, base) = match kind {

@@ -41,7 +41,7 @@
 //! this number, counted from 1, and `lack=A..B` has it find no memory.
 //!
 //! What a run of the program is given; `x.prover` and `x.verifier` are the dealt files, the circuit stands under its name, and the disk
-//! has the journal of one of the files, of which it tells nothing: the prover's where the words begin with `prove`, `prove-arith` or
+//! has the journal of one of the files, of which it tells nothing: the prover's where the words begin with `prove`, `prove-arith`, `prove-poly` or
 //! `migrate,prover`, one of the same kind where they have `--node`, else the verifier's. Behind a journal of one area it has room for one of
 //! two.
 //!

@@ -19,7 +19,7 @@ use std::fmt;
 use std::sync::Wait;
 use std::thread::Threads;
 use twin_journal::JournalKind;
-use zk_cli::{Elements, Finish, Part, Rehearsal, run_zk};
+use zk_cli::{ClaimRehearsal, Elements, Finish, Part, Rehearsal, run_zk};
 use zk_model::Span;
 use zk_port::Shelf;
 
@@ -43,6 +43,7 @@ impl fmt::Display for HandedBack<'_> {
             Part::RehearsedElements(rehearsal) => {
                 write!(f, "{}", RehearsedElements { rehearsal })
             }
+            Part::RehearsedClaim(rehearsal) => write!(f, "{}", RehearsedClaim { rehearsal }),
             Part::Proved(note) => write!(f, "proved {}", proved(note)),
             Part::Served(notes) => {
                 write!(f, "served")?;
@@ -120,6 +121,19 @@ impl fmt::Display for RehearsedElements<'_> {
         }
         let (need, units) = (self.rehearsal.need, self.rehearsal.units);
         write!(f, " need={need} units={units}")
+    }
+}
+
+/// What a rehearsal of constraints gave.
+#[derive(Clone, Copy)]
+struct RehearsedClaim<'a> {
+    rehearsal: &'a ClaimRehearsal,
+}
+
+impl fmt::Display for RehearsedClaim<'_> {
+    fn fmt<W: fmt::Write>(&self, f: &mut fmt::Formatter<W>) -> fmt::Result {
+        let (need, units) = (self.rehearsal.need, self.rehearsal.units);
+        write!(f, "rehearsed constraints need={need} units={units}")
     }
 }
 
@@ -351,7 +365,7 @@ pub fn run_lines<R: Threads + Wait + Sync>(
 /// Whether words begin with a command that proves.
 pub fn is_proof(words: &[String]) -> bool {
     let first = words.iter().next().map_or("", String::as_str);
-    first == "prove" || first == "prove-arith"
+    first == "prove" || first == "prove-arith" || first == "prove-poly"
 }
 
 /// The kind of the journal that the disk has: proofs, `migrate prover` and `status` of a prover's file are about the prover's, and what is said

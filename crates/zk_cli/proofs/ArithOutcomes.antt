@@ -16,7 +16,7 @@ use Rattle.session_rehearsal.specs.Rehearsals.{EndsWithVerdict}
 use Rattle.zk_cli.specs.ArithRuns.{ArithMeans, ArithRehearseStop, IsArithReady, RehearsesArith, SaysArithRehearsal, arith_units}
 use Rattle.zk_cli.specs.RehearseRuns.{Accepts, AnswersFor, arith_lines, verdict_status}
 use Rattle.zk_cli.specs.declared.finish.Part.{Part}
-use Rattle.zk_cli.specs.declared.finish.Part.TheVariants.{Brokered, Plain, Proved, Rehearsed, RehearsedElements, Served}
+use Rattle.zk_cli.specs.declared.finish.Part.TheVariants.{Brokered, Plain, Proved, Rehearsed, RehearsedClaim, RehearsedElements, Served}
 use Rattle.zk_model.specs.Arithmetic.{Arith, SatisfiesElements}
 use Rattle.zk_model.specs.declared.limits.TheConstants.{MAX_UNITS}
 
@@ -39,6 +39,7 @@ means ask seed Plain run lines = elim (any_answers (stop_status lines.stop) (sto
 means ask seed (Rehearsed r) run lines = absurd lines
 means ask seed (Served notes) run lines = absurd lines
 means ask seed (Proved note) run lines = absurd lines
+means ask seed (RehearsedClaim r) run lines = absurd lines
 means ask seed (Brokered notes) run lines = absurd lines
 
 -- why a run stops that a shelf tells a circuit and values that satisfy it: for want of memory, or since it takes too many units
@@ -75,6 +76,7 @@ few_units texts ask seed Plain run circuit ready lines accepts = absurd accepts
 few_units texts ask seed (Rehearsed r) run circuit ready lines accepts = absurd lines
 few_units texts ask seed (Served notes) run circuit ready lines accepts = absurd accepts
 few_units texts ask seed (Proved note) run circuit ready lines accepts = absurd accepts
+few_units texts ask seed (RehearsedClaim r) run circuit ready lines accepts = absurd accepts
 few_units texts ask seed (Brokered notes) run circuit ready lines accepts = absurd accepts
 
 done : {L : Type 0} → TextsAreExact → ElementsAreExact → (ask : RehearseArithAsk) (seed : List ℕ) (part : Part L) (run : Effects) (circuit : Arith)

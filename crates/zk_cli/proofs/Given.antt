@@ -1,14 +1,15 @@
 -- Runs whose words name files that give bits.
-use Rattle.std.proofs.Common.{◌≡◌, ◌⊎◌, ◌≤◌, ◌-◌, ℕ, List, [], length, nat_le, Bool, true, false, if◌then◌else◌, refl, ap, subst, inl, inr, arith}
+use Rattle.std.proofs.Common.{◌≡◌, ◌⊎◌, ◌≤◌, ◌-◌, ℕ, List, [], length, nat_le, Bool, true, false, if◌then◌else◌, Option, refl, ap, subst, inl, inr, arith}
 use Rattle.zk_model.specs.Circuit.{Circuit}
 use Rattle.zk_port.specs.Changes.{Change, change}
 use Rattle.zk_port.specs.Disks.{DiskState}
 use Rattle.zk_port.specs.Doors.{DoorState}
+use Rattle.zk_port.specs.Files.{Files}
 use Rattle.zk_port.specs.Links.{LinkState}
 use Rattle.zk_port.specs.Shelves.{ShelfState}
 use Rattle.command_words.specs.BitWords.{Bits, BitsAsk, said, named}
 use Rattle.command_words.specs.Words.{Ask}
-use Rattle.command_words.specs.declared.asks.Ask.TheVariants.{Rehearse as rehearse, Generate as generate, RehearseArith as rehearse_arith, Eval as eval, Deal as deal, Serve as serve, ServeMany as serve_many, ServeArith as serve_arith, Prove as prove, ProveArith as prove_arith, Audit as audit, AuditArith as audit_arith, Migrate as migrate, Status as status, Node as node, Broker as broker, ServeNode as serve_node}
+use Rattle.command_words.specs.declared.asks.Ask.TheVariants.{Rehearse as rehearse, Generate as generate, RehearseArith as rehearse_arith, RehearsePoly as rehearse_poly, Eval as eval, Deal as deal, Serve as serve, ServeMany as serve_many, ServeArith as serve_arith, ServePoly as serve_poly, Prove as prove, ProveArith as prove_arith, ProvePoly as prove_poly, Audit as audit, AuditArith as audit_arith, Migrate as migrate, Status as status, Node as node, Broker as broker, ServeNode as serve_node}
 use Rattle.claim_files.specs.Services.{service_asked, service_of_arith, service_of_node}
 use Rattle.proof_audit.specs.AuditRuns.{Audits}
 use Rattle.proof_audit.specs.NamedAudits.{audit_asked, audit_of_arith}
@@ -16,7 +17,7 @@ use Rattle.status_command.specs.StatusRuns.{Reports}
 use Rattle.file_commands.specs.DealRuns.{Deals}
 use Rattle.file_commands.specs.Effects.{Effects, OnlyLoads, ShelfChange, SinkChange, effects}
 use Rattle.file_commands.specs.EvalRuns.{Evaluates}
-use Rattle.file_commands.specs.GivenBits.{BitsOf, ClaimedStop, GivenStop, InputsStop, IsGivenName, Outputs, Private, Public, WordStop, cut_refusal}
+use Rattle.file_commands.specs.GivenBits.{BitsOf, ClaimedStop, GivenStop, InputsStop, IsAskGiven, IsGivenName, Outputs, Private, Public, WordStop, cut_refusal}
 use Rattle.file_commands.specs.Journals.{DiskChange}
 use Rattle.file_commands.specs.MigrateRuns.{Migrates}
 use Rattle.file_commands.specs.Stops.{CircuitStop, LoadStop, PrintsMade, stop_line, stop_status}
@@ -29,6 +30,7 @@ use Rattle.node_command.specs.NodeRuns.{MakesNode}
 use Rattle.prove_command.specs.Proofs.{proof_asked, proof_of_arith}
 use Rattle.zk_cli.specs.BrokeredParts.{BrokersPart}
 use Rattle.zk_cli.specs.NodeServiceRuns.{ServesNode, place_asked}
+use Rattle.zk_cli.specs.PolyParts.{ProvesPolyPart, RehearsesPolyPart, ServesPolyPart}
 use Rattle.zk_cli.specs.ProvedParts.{ProvesPart}
 use Rattle.zk_cli.specs.ArithRuns.{RehearsesArith}
 use Rattle.zk_cli.specs.RehearseRuns.{Generates, Rehearses}
@@ -73,14 +75,17 @@ module _ (why : Refusal) (low : stop_status why ≤ 2) (unloaded : (name : List 
   given_is_high (rehearse ask) shelf (inr cause) = inputs_are_high ask.circuit ask.public ask.bits shelf cause
   given_is_high (generate ask) shelf (inr cause) = absurd cause
   given_is_high (rehearse_arith ask) shelf (inr cause) = absurd cause
+  given_is_high (rehearse_poly ask) shelf (inr cause) = absurd cause
   given_is_high (eval ask) shelf (inr cause) = word_is_high ask.circuit (Private []) ask.bits shelf cause
   given_is_high (deal ask) shelf (inr cause) = absurd cause
   given_is_high (serve ask) shelf (inr cause) = claimed_are_high ask.circuit ask.public ask.outputs shelf cause
   given_is_high (serve_many ask) shelf (inr cause) = absurd cause
   given_is_high (serve_arith ask) shelf (inr cause) = absurd cause
+  given_is_high (serve_poly ask) shelf (inr cause) = absurd cause
   given_is_high (prove ask) shelf (inr (inl cause)) = inputs_are_high ask.circuit ask.public ask.bits shelf cause
   given_is_high (prove ask) shelf (inr (inr (public, bits, one, two, cause))) = word_is_high ask.circuit Outputs ask.outputs shelf cause
   given_is_high (prove_arith ask) shelf (inr cause) = absurd cause
+  given_is_high (prove_poly ask) shelf (inr cause) = absurd cause
   given_is_high (audit ask) shelf (inr cause) = claimed_are_high ask.circuit ask.public ask.outputs shelf cause
   given_is_high (node ask) shelf (inr cause) = absurd cause
   given_is_high (audit_arith ask) shelf (inr cause) = absurd cause
@@ -145,6 +150,7 @@ module _ {F L B D : Type 0} (shelf_tells : F → ShelfState) (door_tells : D →
   meets_on (rehearse ask) meets = (held (λ run. Rehearses ask seed part run) meets.0, local_on meets.1)
   meets_on (generate ask) meets = (held (λ run. Generates ask seed part run) meets.0, local_on meets.1)
   meets_on (rehearse_arith ask) meets = (held (λ run. RehearsesArith ask seed part run) meets.0, local_on meets.1)
+  meets_on (rehearse_poly ask) meets = (held (λ run. RehearsesPolyPart ask seed part run) meets.0, local_on meets.1)
   meets_on (eval ask) meets = (held (λ run. Evaluates ask run) meets.0, meets.1, local_on meets.2)
   meets_on (deal ask) meets = (held (λ run. Deals ask seed run) meets.0, meets.1, local_on meets.2)
   meets_on (node ask) meets = (held (λ run. MakesNode ask run) meets.0, meets.1, local_on meets.2)
@@ -155,8 +161,10 @@ module _ {F L B D : Type 0} (shelf_tells : F → ShelfState) (door_tells : D →
   meets_on (serve ask) meets = held (λ run. Serves link_tells (service_asked ask) part disk (run_from old).door run) meets
   meets_on (serve_many ask) meets = held (λ run. ServesMany link_tells ask part disk (run_from old).door run) meets
   meets_on (serve_arith ask) meets = held (λ run. Serves link_tells (service_of_arith ask) part disk (run_from old).door run) meets
+  meets_on (serve_poly ask) meets = held (λ run. ServesPolyPart link_tells ask part disk (run_from old).door run) meets
   meets_on (prove ask) meets = held (λ run. ProvesPart link_tells (proof_asked ask) part disk (run_from old).door run) meets
   meets_on (prove_arith ask) meets = held (λ run. ProvesPart link_tells (proof_of_arith ask) part disk (run_from old).door run) meets
+  meets_on (prove_poly ask) meets = held (λ run. ProvesPolyPart link_tells ask part disk (run_from old).door run) meets
   meets_on (broker ask) meets = held (λ run. BrokersPart link_tells disk_tells ask part disk (run_from old).door run) meets
   meets_on (serve_node ask) meets =
       held (λ run. ServesNode link_tells disk_tells (service_of_node ask) (place_asked ask) part journal (run_from old).door run) meets
@@ -167,6 +175,29 @@ module _ {F L B D : Type 0} (shelf_tells : F → ShelfState) (door_tells : D →
     headline = subst (λ (s : ShelfState). ShowsClaims s.told ask part) same promises.headline;
     once = subst (λ (s : ShelfState). GrantsOnceIn disk_tells s.told ask part journal) same promises.once;
   }
+
+-- bits do not change whether a service says how it goes
+pub follows_given : (told : Option Files) (ask : Ask BitsAsk) (given : Ask Bits) → IsAskGiven told ask given → follows given ≡ follows ask
+follows_given told (rehearse ask) given (public, bits, one, two, is) = ap follows is
+follows_given told (generate ask) given is = ap follows is
+follows_given told (rehearse_arith ask) given is = ap follows is
+follows_given told (rehearse_poly ask) given is = ap follows is
+follows_given told (eval ask) given (bits, one, is) = ap follows is
+follows_given told (deal ask) given is = ap follows is
+follows_given told (serve ask) given (public, outputs, one, two, is) = ap follows is
+follows_given told (serve_many ask) given is = ap follows is
+follows_given told (serve_arith ask) given is = ap follows is
+follows_given told (serve_poly ask) given is = ap follows is
+follows_given told (prove ask) given (public, bits, outputs, one, two, three, is) = ap follows is
+follows_given told (prove_arith ask) given is = ap follows is
+follows_given told (prove_poly ask) given is = ap follows is
+follows_given told (audit ask) given (public, outputs, one, two, is) = ap follows is
+follows_given told (audit_arith ask) given is = ap follows is
+follows_given told (migrate ask) given is = ap follows is
+follows_given told (status ask) given is = ap follows is
+follows_given told (node ask) given is = ap follows is
+follows_given told (broker ask) given is = ap follows is
+follows_given told (serve_node ask) given (outputs, one, is) = ap follows is
 
 -- a run says nothing beside the output, or a service is asked for that says how it goes
 pub quiet_or_follows : {A : Type 0} (IsReadAs : Ask BitsAsk → Type 0) (ask : Ask BitsAsk) (old new : A) → IsReadAs ask

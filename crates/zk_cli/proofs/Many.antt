@@ -23,7 +23,7 @@ use Rattle.zk_cli.specs.ManyRuns.{ServesMany, StatementsStop}
 use Rattle.zk_cli.specs.Runs.{EachNote, OfNotes}
 use Rattle.zk_cli.specs.ServeRuns.{HasServeFailed, IsServable, IsWithHonestProver, Serves}
 use Rattle.zk_cli.specs.declared.finish.Part.{Part}
-use Rattle.zk_cli.specs.declared.finish.Part.TheVariants.{Brokered, Plain, Proved, Rehearsed, RehearsedElements, Served}
+use Rattle.zk_cli.specs.declared.finish.Part.TheVariants.{Brokered, Plain, Proved, Rehearsed, RehearsedClaim, RehearsedElements, Served}
 
 -- what holds of the sessions that are handed back
 pub of_notes : {L : Type 0} (part : Part L) (P Q : List (SessionNote L) → Type 0) → ((notes : List (SessionNote L)) → P notes → Q notes)
@@ -33,6 +33,7 @@ of_notes Plain P Q then holds = tt
 of_notes (Rehearsed r) P Q then holds = tt
 of_notes (RehearsedElements r) P Q then holds = tt
 of_notes (Proved note) P Q then holds = tt
+of_notes (RehearsedClaim r) P Q then holds = tt
 of_notes (Brokered notes) P Q then holds = tt
 
 -- ---- why there are no claims

@@ -1,13 +1,14 @@
 -- No command ends with the status of words that ask for nothing.
 use Rattle.std.proofs.Common.{◌≡◌, ℕ, List, Option, None, Some, refl, sym, ◌∙◌, subst, inl, inr, arith}
+use Rattle.std.specs.Option.{option_map}
 use Rattle.zk_port.specs.Links.{LinkState}
 use Rattle.dealer_files.specs.declared.fault.FileFault.TheVariants as file
 use Rattle.session_prover.specs.declared.note.ProverNote.{ProverNote}
 use Rattle.session_prover.specs.declared.note.ProverOutcome.{ProverOutcome}
 use Rattle.session_prover.specs.declared.note.ProverOutcome.TheVariants as ended
 use Rattle.command_words.specs.BitWords.{Bits}
-use Rattle.command_words.specs.Words.{Ask, RehearseArithAsk, ServeManyAsk}
-use Rattle.command_words.specs.declared.asks.Ask.TheVariants.{Rehearse as rehearse, Generate as generate, RehearseArith as rehearse_arith, Eval as eval, Deal as deal, Serve as serve, ServeMany as serve_many, ServeArith as serve_arith, Prove as prove, ProveArith as prove_arith, Audit as audit, AuditArith as audit_arith, Migrate as migrate, Status as status, Node as node, Broker as broker, ServeNode as serve_node}
+use Rattle.command_words.specs.Words.{Ask, ProvePolyAsk, RehearseArithAsk, RehearsePolyAsk, ServeManyAsk, ServePolyAsk}
+use Rattle.command_words.specs.declared.asks.Ask.TheVariants.{Rehearse as rehearse, Generate as generate, RehearseArith as rehearse_arith, RehearsePoly as rehearse_poly, Eval as eval, Deal as deal, Serve as serve, ServeMany as serve_many, ServeArith as serve_arith, ServePoly as serve_poly, Prove as prove, ProveArith as prove_arith, ProvePoly as prove_poly, Audit as audit, AuditArith as audit_arith, Migrate as migrate, Status as status, Node as node, Broker as broker, ServeNode as serve_node}
 use Rattle.claim_files.specs.Services.{Service, service_asked, service_of_arith, service_of_node}
 use Rattle.file_commands.specs.Effects.{DoorChange, Effects, ShelfChange}
 use Rattle.file_commands.specs.Journals.{DiskChange}
@@ -25,14 +26,19 @@ use Rattle.prove_command.specs.BitsProofs.{BitsProofStop}
 use Rattle.prove_command.specs.ElementsProofs.{ElementsProofStop}
 use Rattle.prove_command.specs.NamedProofs.{BitsProof, ElementsProof}
 use Rattle.prove_command.specs.Proofs.{Proof, proof_asked, proof_of_arith}
+use Rattle.poly_files.specs.PolyFiles.{PolyWitnessStop}
 use Rattle.prove_command.specs.ProveRuns.{ProveMeans, ProveStop, WitnessStop, proved_status}
 use Rattle.prove_command.specs.declared.proof.ProofNames.{ProofNames}
 use Rattle.prove_command.specs.declared.proof.ProofNames.TheVariants as names
+use Rattle.prove_poly.specs.PolyProofs.{ProvePolyMeans, ProvePolyStop}
+use Rattle.rehearse_poly.specs.PolyRuns.{PolyRehearseStop}
+use Rattle.serve_poly.proofs.PolyUsage.{serve_two}
+use Rattle.zk_cli.specs.PolyParts.{ProvesPolyPart, RehearsesPolyPart, ServesPolyPart}
 use Rattle.zk_cli.specs.ProvedParts.{ProvesPart}
 use Rattle.zk_cli.specs.Runs.{Run, told_change}
 use Rattle.zk_cli.specs.ServeRuns.{OpenedJournal, ServiceMeans, StopsService, ceilings_journal}
 use Rattle.zk_cli.specs.declared.finish.Part.{Part}
-use Rattle.zk_cli.specs.declared.finish.Part.TheVariants.{Brokered, Plain, Proved, Rehearsed, RehearsedElements, Served}
+use Rattle.zk_cli.specs.declared.finish.Part.TheVariants.{Brokered, Plain, Proved, Rehearsed, RehearsedClaim, RehearsedElements, Served}
 
 two_is_usage : (why : Refusal) → 2 ≡ stop_status why → why ≡ stop.Usage
 two_is_usage stop.Usage two = refl
@@ -50,6 +56,7 @@ two_is_usage (stop.ManyPublic inputs got) two = absurd (omega (arith, two))
 two_is_usage (stop.WrongBits need got) two = absurd (omega (arith, two))
 two_is_usage (stop.WrongOutputs need got) two = absurd (omega (arith, two))
 two_is_usage (stop.BadElements fault) two = absurd (omega (arith, two))
+two_is_usage (stop.BadConstraints fault) two = absurd (omega (arith, two))
 two_is_usage (stop.NotDealt unit) two = absurd (omega (arith, two))
 two_is_usage (stop.BadLog place) two = absurd (omega (arith, two))
 two_is_usage (stop.StatementLine line) two = absurd (omega (arith, two))
@@ -97,6 +104,7 @@ service_two journal service Plain disk door run (inl stopped) two =
 service_two journal service Plain disk door run (inr seven) two = omega (arith, seven, two)
 service_two journal service (Rehearsed r) disk door run means two = means
 service_two journal service (RehearsedElements r) disk door run means two = means
+service_two journal service (RehearsedClaim r) disk door run means two = means
 service_two journal service (Proved note) disk door run means two = means
 service_two journal service (Brokered notes) disk door run means two = means
 
@@ -162,6 +170,51 @@ prove_two : {L : Type 0} (link_tells : L → LinkState) (proof : Proof) (part : 
     → ProvesPart link_tells proof part disk door run → run.status ≡ 2 → ⊥
 prove_two link_tells proof part disk door run held two = note_two proof held.note disk door run held.proves.means two
 
+-- ---- constraints
+
+witness_lacks : (text values : List ℕ) (shelf : ShelfChange) → PolyWitnessStop text values shelf stop.Usage → ⊥
+witness_lacks text values shelf (inl cause) = absurd cause
+witness_lacks text values shelf (inr cause) = elim cause.is [ inl lacks ↦ absurd lacks | inr unmet ↦ absurd unmet.is ]
+
+poly_prove_unused : (ask : ProvePolyAsk) (shelf : ShelfChange) (disk : DiskChange) (door : DoorChange)
+    → ProvePolyStop ask shelf disk door stop.Usage → ⊥
+poly_prove_unused ask shelf disk door (inl (inl cause, unasked, unheard)) = witness_lacks ask.text ask.values shelf cause
+poly_prove_unused ask shelf disk door (inl (inr cause, unasked, unheard)) = absurd cause.1
+poly_prove_unused ask shelf disk door (inr cause) = elim cause.2.cause [ inl journal ↦ absurd journal.0 | inr unheard ↦ absurd unheard ]
+
+poly_note_two : {L : Type 0} (ask : ProvePolyAsk) (note : Option (ProverNote L)) (disk : DiskChange) (door : DoorChange) (run : Effects)
+    → ProvePolyMeans ask note disk door run → run.status ≡ 2 → ⊥
+poly_note_two ask (Some note) disk door run (inl accepted) two = let zero_is = accepted.0 in omega (arith, zero_is, two)
+poly_note_two ask (Some note) disk door run (inr (inl other)) two = proved_two note.outcome (sym two ∙ other.0)
+poly_note_two ask (Some note) disk door run (inr (inr (inl (four, failed)))) two = omega (arith, four, two)
+poly_note_two ask (Some note) disk door run (inr (inr (inr seven))) two = omega (arith, seven, two)
+poly_note_two ask None disk door run (inl stopped) two =
+    stop_two (ProvePolyStop ask run.shelf disk door) run.status (poly_prove_unused ask run.shelf disk door) stopped two
+poly_note_two ask None disk door run (inr (inl (four, failed))) two = omega (arith, four, two)
+poly_note_two ask None disk door run (inr (inr seven)) two = omega (arith, seven, two)
+
+poly_prove_two : {L : Type 0} (link_tells : L → LinkState) (ask : ProvePolyAsk) (part : Part L) (disk : DiskChange) (door : DoorChange)
+    (run : Effects) → ProvesPolyPart link_tells ask part disk door run → run.status ≡ 2 → ⊥
+poly_prove_two link_tells ask part disk door run held two = poly_note_two ask held.note disk door run held.proves.means two
+
+poly_rehearse_unused : (ask : RehearsePolyAsk) (shelf : ShelfChange) → PolyRehearseStop ask shelf stop.Usage → ⊥
+poly_rehearse_unused ask shelf cause = witness_lacks ask.text ask.values shelf cause
+
+poly_rehearse_two : {L : Type 0} (ask : RehearsePolyAsk) (seed : List ℕ) (part : Part L) (run : Effects)
+    → RehearsesPolyPart ask seed part run → run.status ≡ 2 → ⊥
+poly_rehearse_two ask seed part run held two = elim held.rehearses.means [
+  | inl (zero_is, accepts) ↦ omega (arith, zero_is, two)
+  | inr (inl stopped) ↦
+      stop_two (PolyRehearseStop ask run.shelf) run.status (poly_rehearse_unused ask run.shelf) stopped two
+  | inr (inr (inl (four, failed))) ↦ omega (arith, four, two)
+  | inr (inr (inr seven)) ↦ omega (arith, seven, two)
+]
+
+poly_serve_two : {L : Type 0} (link_tells : L → LinkState) (ask : ServePolyAsk) (part : Part L) (disk : DiskChange) (door : DoorChange)
+    (run : Effects) → ServesPolyPart link_tells ask part disk door run → run.status ≡ 2 → ⊥
+poly_serve_two link_tells ask part disk door run held two =
+    serve_two link_tells ask (option_map (λ notes. notes.items) held.notes) disk door run held.serves two
+
 -- ---- rehearsals of arithmetic circuits
 
 arith_unused : (ask : RehearseArithAsk) (shelf : ShelfChange) → ArithRehearseStop ask shelf stop.Usage → ⊥
@@ -191,6 +244,7 @@ pub command_two : {F L B D : Type 0} (ask : Ask Bits) (seed : List ℕ) (disk : 
 command_two (rehearse ask) seed disk run meets two = means_two _ _ _ run.effects meets.0.means two
 command_two (generate ask) seed disk run meets two = means_two _ _ _ run.effects meets.0.means two
 command_two (rehearse_arith ask) seed disk run meets two = arith_two ask run.part run.effects meets.0.means two
+command_two (rehearse_poly ask) seed disk run meets two = poly_rehearse_two ask seed run.part run.effects meets.0 two
 command_two (eval ask) seed disk run meets two = means_two _ _ _ run.effects meets.0.means two
 command_two (deal ask) seed disk run meets two = means_two _ _ _ run.effects meets.0.means two
 command_two (node ask) seed disk run meets two = means_two _ _ _ run.effects meets.0.means two
@@ -213,9 +267,11 @@ command_two (status ask) seed disk run meets two = elim meets.0.statuses [
 command_two (serve ask) seed disk run meets two = service_two (ceilings_journal (service_asked ask)) (service_asked ask) run.part disk run.door run.effects meets.means two
 command_two (serve_many ask) seed disk run meets two = many_two run.link_tells ask run.part disk run.door run.effects meets two
 command_two (serve_arith ask) seed disk run meets two = service_two (ceilings_journal (service_of_arith ask)) (service_of_arith ask) run.part disk run.door run.effects meets.means two
+command_two (serve_poly ask) seed disk run meets two = poly_serve_two run.link_tells ask run.part disk run.door run.effects meets two
 command_two (prove ask) seed disk run meets two = prove_two run.link_tells (proof_asked ask) run.part disk run.door run.effects meets two
 command_two (prove_arith ask) seed disk run meets two =
     prove_two run.link_tells (proof_of_arith ask) run.part disk run.door run.effects meets two
+command_two (prove_poly ask) seed disk run meets two = poly_prove_two run.link_tells ask run.part disk run.door run.effects meets two
 command_two (broker ask) seed disk run meets two = elim meets.serves.statuses [
   | inl zero_is ↦ omega (arith, zero_is, two)
   | inr (inl one) ↦ omega (arith, one, two)

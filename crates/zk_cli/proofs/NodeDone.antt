@@ -43,7 +43,7 @@ use Rattle.zk_cli.specs.NodeServiceRuns.{HasCalmTries, HasNodeFailed, IsNodeDone
 use Rattle.zk_cli.specs.Runs.{EachNote, told_change}
 use Rattle.zk_cli.specs.ServeRuns.{AreServeJobs, IsServeName, IsWithHonestProver, NotesMean, ServiceMeans}
 use Rattle.zk_cli.specs.declared.finish.Part.{Part}
-use Rattle.zk_cli.specs.declared.finish.Part.TheVariants.{Brokered, Plain, Proved, Rehearsed, RehearsedElements, Served}
+use Rattle.zk_cli.specs.declared.finish.Part.TheVariants.{Brokered, Plain, Proved, Rehearsed, RehearsedClaim, RehearsedElements, Served}
 use Rattle.zk_cli.proofs.NodeLed.{IsNodeNote, ends_counts, led_notes}
 use Rattle.zk_cli.proofs.ServeDone.{IsSoundFor, stands_among, stop_7}
 use Rattle.zk_cli.proofs.ServeOutcomes.{either_is, notes_mean, stop_is_high}
@@ -245,6 +245,7 @@ node_means link_tells state service place Plain journal door run says =
 node_means link_tells state service place (Rehearsed r) journal door run says = absurd says
 node_means link_tells state service place (RehearsedElements r) journal door run says = absurd says
 node_means link_tells state service place (Proved note) journal door run says = absurd says
+node_means link_tells state service place (RehearsedClaim r) journal door run says = absurd says
 node_means link_tells state service place (Brokered notes) journal door run says = absurd says
 
 node_is_done : {B L : Type 0} (link_tells : L → LinkState) (state : B → DiskState) → OneCircuit → TextsAreExact → ElementsAreExact → ClaimsStartAgain
@@ -265,6 +266,7 @@ node_is_done link_tells state one texts exact law service place Plain journal do
 node_is_done link_tells state one texts exact law service place (Rehearsed r) journal door run says means ready calm honest = absurd says
 node_is_done link_tells state one texts exact law service place (RehearsedElements r) journal door run says means ready calm honest = absurd says
 node_is_done link_tells state one texts exact law service place (Proved note) journal door run says means ready calm honest = absurd says
+node_is_done link_tells state one texts exact law service place (RehearsedClaim r) journal door run says means ready calm honest = absurd says
 node_is_done link_tells state one texts exact law service place (Brokered notes) journal door run says means ready calm honest = absurd says
 
 pub serves_node : {B L : Type 0} (link_tells : L → LinkState) (state : B → DiskState) → OneCircuit → TextsAreExact → ElementsAreExact → ClaimsStartAgain

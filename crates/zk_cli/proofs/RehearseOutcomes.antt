@@ -12,7 +12,7 @@ use Rattle.zk_cli.specs.RehearseRuns.{Rehearses, RehearseStop, Accepts, AnswersF
 use Rattle.file_commands.specs.Effects.{ShelfChange, Effects, OnlyLoads, IsName, HasFailed, NameFailed, SinkFailed}
 use Rattle.file_commands.specs.Stops.{CircuitStop, IsOfStop, IsCircuitReady, PrintsMade, StatusMeans, stop_status, SaysStop}
 use Rattle.zk_cli.specs.declared.finish.Part.{Part}
-use Rattle.zk_cli.specs.declared.finish.Part.TheVariants.{Brokered, Plain, Proved, Rehearsed, RehearsedElements, Served}
+use Rattle.zk_cli.specs.declared.finish.Part.TheVariants.{Brokered, Plain, Proved, Rehearsed, RehearsedClaim, RehearsedElements, Served}
 use Rattle.file_commands.specs.declared.refusal.Refusal.{Refusal}
 use Rattle.file_commands.specs.declared.refusal.Refusal.TheVariants as stop
 use Rattle.file_commands.proofs.Causes.{told_circuit, circuit_lacks}
@@ -47,6 +47,7 @@ rehearsal_means {L} Is Stops IsNamed (Rehearsed r) run accepts stops lines =
 rehearsal_means Is Stops IsNamed Plain run accepts stops lines = stops lines
 rehearsal_means Is Stops IsNamed (Served notes) run accepts stops lines = absurd lines
 rehearsal_means Is Stops IsNamed (Proved note) run accepts stops lines = absurd lines
+rehearsal_means Is Stops IsNamed (RehearsedClaim r) run accepts stops lines = absurd lines
 rehearsal_means Is Stops IsNamed (Brokered notes) run accepts stops lines = absurd lines
 rehearsal_means Is Stops IsNamed (RehearsedElements r) run accepts stops lines = absurd lines
 
@@ -97,6 +98,7 @@ few_units one ask seed (Rehearsed r) run circuit ready lines accepts =
 few_units one ask seed Plain run circuit ready lines accepts = absurd accepts
 few_units one ask seed (Served notes) run circuit ready lines accepts = absurd accepts
 few_units one ask seed (Proved note) run circuit ready lines accepts = absurd accepts
+few_units one ask seed (RehearsedClaim r) run circuit ready lines accepts = absurd accepts
 few_units one ask seed (Brokered notes) run circuit ready lines accepts = absurd accepts
 few_units one ask seed (RehearsedElements r) run circuit ready lines accepts = absurd lines
 
@@ -146,6 +148,7 @@ generated_units ask seed (Rehearsed r) run lines accepts = subst (λ n. n ≤ MA
 generated_units ask seed Plain run lines accepts = absurd accepts
 generated_units ask seed (Served notes) run lines accepts = absurd accepts
 generated_units ask seed (Proved note) run lines accepts = absurd accepts
+generated_units ask seed (RehearsedClaim r) run lines accepts = absurd accepts
 generated_units ask seed (Brokered notes) run lines accepts = absurd accepts
 generated_units ask seed (RehearsedElements r) run lines accepts = absurd lines
 

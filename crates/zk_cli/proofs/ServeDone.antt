@@ -44,7 +44,7 @@ use Rattle.file_commands.specs.Stops.{ListenStop, stop_status}
 use Rattle.zk_cli.specs.ServeRuns.{AreServeJobs, IsServeName, IsServable, HasServeFailed, IsWithHonestProver, NotesMean, ServeMeans, Serves}
 use Rattle.session_verifier.specs.ServiceLogs.{IsLogName}
 use Rattle.zk_cli.specs.declared.finish.Part.{Part}
-use Rattle.zk_cli.specs.declared.finish.Part.TheVariants.{Brokered, Plain, Proved, Rehearsed, RehearsedElements, Served}
+use Rattle.zk_cli.specs.declared.finish.Part.TheVariants.{Brokered, Plain, Proved, Rehearsed, RehearsedClaim, RehearsedElements, Served}
 use Rattle.file_commands.specs.declared.refusal.Refusal.{Refusal}
 use Rattle.file_commands.specs.declared.refusal.Refusal.TheVariants as stop
 use Rattle.file_commands.proofs.Causes.{file_7, sound_7}
@@ -256,6 +256,7 @@ serve_is_done link_tells one texts exact law service Plain disk door run says me
 serve_is_done link_tells one texts exact law service (Rehearsed r) disk door run says means ready calm honest = absurd says
 serve_is_done link_tells one texts exact law service (RehearsedElements r) disk door run says means ready calm honest = absurd says
 serve_is_done link_tells one texts exact law service (Proved note) disk door run says means ready calm honest = absurd says
+serve_is_done link_tells one texts exact law service (RehearsedClaim r) disk door run says means ready calm honest = absurd says
 serve_is_done link_tells one texts exact law service (Brokered notes) disk door run says means ready calm honest = absurd says
 
 pub serves : {L : Type 0} (link_tells : L → LinkState) → OneCircuit → TextsAreExact → ElementsAreExact → CeilingsStartAgain → (service : Service) (part : Part L) (disk : DiskChange) (door : DoorChange)

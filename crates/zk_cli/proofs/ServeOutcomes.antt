@@ -18,7 +18,7 @@ use Rattle.session_verifier.specs.ServiceLogs.{KeepsLogs, SaysService, no_faults
 use Rattle.session_verifier.specs.declared.service_logs.LogFaults.{LogFaults}
 use Rattle.file_commands.specs.Stops.{Prints, after_sink_fault}
 use Rattle.zk_cli.specs.declared.finish.Part.{Part}
-use Rattle.zk_cli.specs.declared.finish.Part.TheVariants.{Brokered, Plain, Proved, Rehearsed, RehearsedElements, Served}
+use Rattle.zk_cli.specs.declared.finish.Part.TheVariants.{Brokered, Plain, Proved, Rehearsed, RehearsedClaim, RehearsedElements, Served}
 use Rattle.file_commands.specs.declared.refusal.Refusal.{Refusal}
 use Rattle.file_commands.specs.declared.refusal.Refusal.TheVariants as stop
 use Rattle.file_commands.proofs.Journals.{rose_by}
@@ -254,4 +254,5 @@ serve_means link_tells service Plain disk door run says =
 serve_means link_tells service (Rehearsed r) disk door run says = absurd says
 serve_means link_tells service (RehearsedElements r) disk door run says = absurd says
 serve_means link_tells service (Proved note) disk door run says = absurd says
+serve_means link_tells service (RehearsedClaim r) disk door run says = absurd says
 serve_means link_tells service (Brokered notes) disk door run says = absurd says

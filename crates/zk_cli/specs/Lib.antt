@@ -8,3 +8,4 @@ pub mod ProvedParts
 pub mod ArithRuns
 pub mod BrokeredParts
 pub mod NodeServiceRuns
+pub mod PolyParts

@@ -3,7 +3,7 @@ use Rattle.std.specs.Prelude.{◌≡◌, ◌⊎◌, ℕ, List, Bool, false, Opti
 use Rattle.claim_files.specs.Services.{service_asked, service_of_arith, service_of_node}
 use Rattle.command_words.specs.BitWords.{Bits, BitsAsk}
 use Rattle.command_words.specs.Words.{Ask}
-use Rattle.command_words.specs.declared.asks.Ask.TheVariants.{Rehearse as rehearse, Eval as eval, Deal as deal, Serve as serve, ServeMany as serve_many, ServeArith as serve_arith, Prove as prove, ProveArith as prove_arith, Generate as generate, RehearseArith as rehearse_arith, Audit as audit, AuditArith as audit_arith, Migrate as migrate, Status as status, Node as node, Broker as broker, ServeNode as serve_node}
+use Rattle.command_words.specs.declared.asks.Ask.TheVariants.{Rehearse as rehearse, Eval as eval, Deal as deal, Serve as serve, ServeMany as serve_many, ServeArith as serve_arith, ServePoly as serve_poly, Prove as prove, ProveArith as prove_arith, ProvePoly as prove_poly, Generate as generate, RehearseArith as rehearse_arith, RehearsePoly as rehearse_poly, Audit as audit, AuditArith as audit_arith, Migrate as migrate, Status as status, Node as node, Broker as broker, ServeNode as serve_node}
 use Rattle.proof_audit.specs.AuditRuns.{Audits}
 use Rattle.proof_audit.specs.NamedAudits.{audit_asked, audit_of_arith}
 use Rattle.file_commands.specs.DealRuns.{Deals}
@@ -15,6 +15,7 @@ use Rattle.node_command.specs.NodeRuns.{MakesNode}
 use Rattle.prove_command.specs.Proofs.{proof_asked, proof_of_arith}
 use Rattle.zk_cli.specs.BrokeredParts.{BrokersPart}
 use Rattle.zk_cli.specs.NodeServiceRuns.{ServesNode, place_asked}
+use Rattle.zk_cli.specs.PolyParts.{ProvesPolyPart, RehearsesPolyPart, ServesPolyPart}
 use Rattle.zk_cli.specs.ProvedParts.{ProvesPart}
 use Rattle.zk_cli.specs.ArithRuns.{RehearsesArith}
 use Rattle.zk_cli.specs.RehearseRuns.{Rehearses, Generates}
@@ -50,6 +51,7 @@ abbrev pub Meets : {F L B D : Type 0} → Ask Bits → List ℕ → DiskChange �
 Meets (rehearse ask) seed disk run = Rehearses ask seed run.part run.effects × IsLocal run
 Meets (generate ask) seed disk run = Generates ask seed run.part run.effects × IsLocal run
 Meets (rehearse_arith ask) seed disk run = RehearsesArith ask seed run.part run.effects × IsLocal run
+Meets (rehearse_poly ask) seed disk run = RehearsesPolyPart ask seed run.part run.effects × IsLocal run
 Meets (eval ask) seed disk run = Evaluates ask run.effects × (run.part ≡ Plain) × IsLocal run
 Meets (deal ask) seed disk run = Deals ask seed run.effects × (run.part ≡ Plain) × IsLocal run
 Meets (node ask) seed disk run = MakesNode ask run.effects × (run.part ≡ Plain) × IsLocal run
@@ -60,8 +62,10 @@ Meets (migrate ask) seed disk run = Migrates ask disk run.effects × (run.part �
 Meets (serve ask) seed disk run = Serves run.link_tells (service_asked ask) run.part disk run.door run.effects
 Meets (serve_many ask) seed disk run = ServesMany run.link_tells ask run.part disk run.door run.effects
 Meets (serve_arith ask) seed disk run = Serves run.link_tells (service_of_arith ask) run.part disk run.door run.effects
+Meets (serve_poly ask) seed disk run = ServesPolyPart run.link_tells ask run.part disk run.door run.effects
 Meets (prove ask) seed disk run = ProvesPart run.link_tells (proof_asked ask) run.part disk run.door run.effects
 Meets (prove_arith ask) seed disk run = ProvesPart run.link_tells (proof_of_arith ask) run.part disk run.door run.effects
+Meets (prove_poly ask) seed disk run = ProvesPolyPart run.link_tells ask run.part disk run.door run.effects
 Meets (broker ask) seed disk run = BrokersPart run.link_tells run.disk_tells ask run.part disk run.door run.effects
 Meets (serve_node ask) seed disk run =
     ServesNode run.link_tells run.disk_tells (service_of_node ask) (place_asked ask) run.part run.journal run.door run.effects
@@ -106,6 +110,7 @@ abbrev pub follows : {B : Type 0} → Ask B → Bool
 follows (serve ask) = ask.options.follow
 follows (serve_many ask) = ask.options.follow
 follows (serve_arith ask) = ask.options.follow
+follows (serve_poly ask) = ask.options.follow
 follows (broker ask) = ask.follow
 follows (serve_node ask) = ask.follow
 follows other = false

@@ -25,12 +25,13 @@ use Rattle.session_verifier.specs.declared.note.SessionNote.{SessionNote}
 use Rattle.session_verifier.specs.declared.note.VerifierOutcome.TheVariants as ended
 use Rattle.command_words.specs.BitWords.{Bits}
 use Rattle.command_words.specs.Words.{Ask}
-use Rattle.command_words.specs.declared.asks.Ask.TheVariants.{Serve as serve, ServeMany as serve_many, ServeArith as serve_arith, ServeNode as serve_node}
+use Rattle.command_words.specs.declared.asks.Ask.TheVariants.{Serve as serve, ServeMany as serve_many, ServeArith as serve_arith, ServePoly as serve_poly, ServeNode as serve_node}
 use Rattle.claim_files.specs.NamedClaims.{AreSatisfying, Claimed}
 use Rattle.claim_files.specs.Services.{Service, service_asked, service_of_arith, service_of_node}
 use Rattle.claim_files.specs.declared.claim_names.ClaimNames.{ClaimNames}
 use Rattle.file_commands.specs.Journals.{DiskChange}
 use Rattle.session_verifier.specs.NoteLines.{start_of}
+use Rattle.serve_poly.specs.PolyServices.{GrantsPolyOnce, ShowsConstraints}
 use Rattle.zk_cli.specs.ManyRuns.{IsServiceOfMany}
 use Rattle.zk_cli.specs.ServeRuns.{TakeFewUnits, AreServeJobs, IsServeJob, units_of_note}
 use Rattle.zk_cli.specs.Runs.{OfNotes, told_change}
@@ -122,8 +123,8 @@ pub record GrantsClaimedOnce {B L : Type 0} (state : B → DiskState) (told : Op
   pub any_moment : TellsContent state → LeavesOnly (state journal.old) (state journal.new)
       (λ image. (state journal.old).images image ⊎ SaysGrants {L = L} first [] image)
 
--- this holds of the sessions that a run hands back, with the service that was asked for: of the one claim that words name, or of those that a
--- file of statements does
+-- this holds of the sessions that a run hands back, with the service about circuits that was asked for: of the one claim that words name, or of
+-- those that a file of statements does
 abbrev pub OfServed : {L : Type 0} → Option Files → Ask Bits → Part L → (Service → List (SessionNote L) → Type 0) → Type 0
 OfServed told (serve ask) part Holds = OfNotes part (Holds (service_asked ask))
 OfServed told (serve_arith ask) part Holds = OfNotes part (Holds (service_of_arith ask))
@@ -132,11 +133,14 @@ OfServed told (serve_many ask) part Holds =
 OfServed told (serve_node ask) part Holds = OfNotes part (Holds (service_of_node ask))
 OfServed told ask part Holds = Unit {0}
 
--- each accepted session shows its claim; and no unit was granted twice
+-- each accepted session shows its claim, or that constraints are met; and no unit was granted twice
 abbrev pub ShowsClaims : {L : Type 0} → Option Files → Ask Bits → Part L → Type 0
+ShowsClaims told (serve_poly ask) part =
+    OfNotes part (λ notes. All (λ note. note.outcome ≡ ended.Accepted → ShowsConstraints told ask note) notes)
 ShowsClaims told ask part =
     OfServed told ask part (λ service notes. All (λ note. note.outcome ≡ ended.Accepted → ShowsClaim told service note) notes)
 
 abbrev pub GrantsOnceIn : {B L : Type 0} → (B → DiskState) → Option Files → Ask Bits → Part L → Change B → Type 0
 GrantsOnceIn state told (serve_node ask) part journal = OfNotes part (λ notes. GrantsClaimedOnce state told (service_of_node ask) notes journal)
+GrantsOnceIn state told (serve_poly ask) part journal = OfNotes part (λ notes. GrantsPolyOnce told ask notes (told_change state journal))
 GrantsOnceIn state told ask part journal = OfServed told ask part (λ service notes. GrantsOnce told service notes (told_change state journal))

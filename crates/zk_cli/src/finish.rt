@@ -3,6 +3,7 @@ ghost use Rattle.std.specs.Prelude.{◌≡◌};
 ghost use Rattle.zk_cli.specs.declared.finish.Part.TheVariants.{Plain};
 
 use broker_links::BrokerNote;
+use claim_rehearsal::ClaimRehearsal;
 use lease_store::LeaseFault;
 use session_prover::ProverNote;
 use session_rehearsal::{Bits, Elements, Rehearsal};
@@ -18,6 +19,8 @@ pub enum Part<L> {
     Rehearsed(Rehearsal<Bits>),
     /// What a rehearsal gave of an arithmetic one.
     RehearsedElements(Rehearsal<Elements>),
+    /// What a rehearsal gave of constraints.
+    RehearsedClaim(ClaimRehearsal),
     /// What came of a session with a verifier: exactly where the door connected.
     Proved(ProverNote<L>),
     /// What came of the sessions with the peers that called, in order: exactly where the door listened.

@@ -13,7 +13,7 @@ use std::thread::Threads;
 use zk_port::{Disk, Door, Shelf, Sink};
 
 /// The note of a session, if one was held.
-fn part_of<L>(note: Option<ProverNote<L>>) -> Part<L>
+pub(crate) fn part_of<L>(note: Option<ProverNote<L>>) -> Part<L>
     ensures { result ≡ proved_part note }
 {
     match note {

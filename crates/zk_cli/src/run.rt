@@ -15,6 +15,7 @@ use crate::finish::{Finish, Ports};
 use crate::generate_command::run_generate;
 use crate::many_command::run_serve_many;
 use crate::node_service::run_serve_node;
+use crate::poly_part::{run_poly_proof, run_poly_rehearsal, run_poly_service};
 use crate::proved_part::run_proof;
 use crate::rehearse_command::run_rehearse;
 use crate::serve_command::{run_serve, run_serve_arith};
@@ -65,11 +66,16 @@ where
         Asks::RehearseArith(ask) => {
             ports.end_with(run_rehearse_arith(rt, alloc, shelf, out, &ask, seed))
         }
+        Asks::RehearsePoly(ask) => {
+            ports.end_with(run_poly_rehearsal(rt, alloc, shelf, out, &ask, seed))
+        }
         Asks::Serve(ask) => run_serve(rt, alloc, shelf, ports, out, notices, ask),
         Asks::ServeMany(ask) => run_serve_many(rt, alloc, shelf, ports, out, notices, ask),
         Asks::ServeArith(ask) => run_serve_arith(rt, alloc, shelf, ports, out, notices, ask),
+        Asks::ServePoly(ask) => run_poly_service(rt, alloc, shelf, ports, out, notices, &ask),
         Asks::Prove(ask) => run_proof(rt, alloc, shelf, ports, out, &Proof::by_bits(ask)),
         Asks::ProveArith(ask) => run_proof(rt, alloc, shelf, ports, out, &Proof::by_elements(ask)),
+        Asks::ProvePoly(ask) => run_poly_proof(rt, alloc, shelf, ports, out, &ask),
         Asks::Audit(ask) => ports.end(run_audit(rt, alloc, shelf, out, ask)),
         Asks::AuditArith(ask) => ports.end(run_audit_arith(rt, alloc, shelf, out, ask)),
         Asks::Status(ask) => {
@@ -133,7 +139,8 @@ where
 /// where a load of the file failed, or the output before a 0; 7 where memory is missing; 9 where the session would take
 /// more than 4,096 units; and `rehearse --gates N --number S [--section G] [--extended]` with 0, 4, 7 and 9 in the same
 /// cases. `rehearse-arith CIRCUIT VALUES [--section G] [--extended]` ends so too, with 4 where a load of either file failed, and with 1 where
-/// an assertion is not met. `eval CIRCUIT BITS` ends with 0 where it wrote the outputs, and with 3, 4 and 7 in the same cases.
+/// an assertion is not met. `rehearse-poly TEXT VALUES [--section G] [--extended]` ends with 0 where it is accepted; 1 where a constraint is
+/// not met; 3 where a file is refused; 4 where a load of either file failed, or the output; and with 7 and 9. `eval CIRCUIT BITS` ends with 0 where it wrote the outputs, and with 3, 4 and 7 in the same cases.
 /// `deal NAME --units N [--trees T --height H --base K]` ends with 0 where all is stored and said, 4 where a store or
 /// the output failed, and 7. `serve ADDRESS FILE CIRCUIT OUTPUTS --sessions N [--workers W] [--section G] [--timeout S] [--logs PREFIX]
 /// [--follow] [--public BITS]` ends with 0 where each session is accepted, or no peer called; 1 where one is not; 3 where a file or
@@ -141,11 +148,14 @@ where
 /// the journal failed; 6 where units are missing; and with 7 and 9; and so does `serve-many ADDRESS FILE STATEMENTS --sessions N
 /// [--workers W] [--section G] [--timeout S] [--logs PREFIX] [--follow]`, also with 3 where the file of statements is refused, and
 /// `serve-arith ADDRESS FILE CIRCUIT OUTPUTS --sessions N [--workers W] [--section G] [--timeout S] [--logs PREFIX] [--follow]`, with 3 where
-/// the file of the outputs is. `prove ADDRESS FILE CIRCUIT BITS OUTPUTS
+/// the file of the outputs is. `serve-poly ADDRESS FILE TEXT --sessions N [--workers W] [--section G] [--timeout S] [--logs PREFIX]
+/// [--follow]` ends so too, with 3 where the file of the constraints is refused. `prove ADDRESS FILE CIRCUIT BITS OUTPUTS
 /// [--timeout S] [--public BITS]` ends with 0 where it is accepted; 1 where it is rejected, or the circuit gives other outputs; 3 where
 /// a file or the journal is refused, or the bits or outputs for it; 4 where a load, the door, the link or the output
 /// failed; 5 where the journal failed or is full; 8 where the peer broke the protocol; and with 7; and so does `prove-arith ADDRESS FILE
 /// CIRCUIT VALUES OUTPUTS [--timeout S]`, also with 1 where an assertion is not met, and with 3 where a file of elements is refused.
+/// `prove-poly ADDRESS FILE TEXT VALUES [--timeout S]` ends so too, with 1 where a constraint is not met, and with 3 where the file of the
+/// constraints or that of the values is refused.
 /// `audit CIRCUIT OUTPUTS PROVERFILE VERIFIERFILE LOG [--public BITS]` ends with 0 where inputs are found; 1 where something else
 /// is; 3 where a file is refused, the outputs for it, both files or the log; 4 where a load or the output failed; and with 7; and so does
 /// `audit-arith CIRCUIT OUTPUTS PROVERFILE VERIFIERFILE LOG`, also with 3 where the file of the outputs is refused.
@@ -202,7 +212,9 @@ where
     // every prover's file that is dealt with the verifier's, the private inputs that this file and its frames fix make the circuit
     // give the claimed outputs, bits beside the public ones, or elements, which meet an arithmetic circuit's assertions; or the
     // challenge is a root of a named nonzero polynomial of at most the number of products in degree, or the key is one of a named
-    // nonzero polynomial of degree two at most.
+    // nonzero polynomial of degree two at most. Of constraints: the values that this file and its frames fix meet all of them; or the
+    // challenge is a root of the errors, which are not all zero; or the key is one of a named nonzero polynomial of their degree at
+    // most.
     ensures headline { (ask : Ask BitsAsk) → asked (texts words.now) ≡ Some ask
         → ShowsGiven (F.state shelf.old).told ask result.part }
 

@@ -85,3 +85,10 @@ returns-clause-pairs g c =
 pub returns-clause-key_count : goal.returns-clause-key_count
 returns-clause-key_count g c =
     c.in_ok-given.ensures.key_count ∙ ap (λ n. n * correlations_per_unit c.args.verifier.now.params) (asked_count g (goal.at.returns-clause-key_count g c).After-deref)
+
+pub returns-clause-asked : goal.returns-clause-asked
+returns-clause-asked g c = c.in_ok-asked.ensures ∙ ap (map model.asks) c.in_ok-asks.ensures
+
+pub returns-clause-replied : goal.returns-clause-replied
+returns-clause-replied g c =
+    c.in_ok-replied.ensures ∙ ap (map model.replies) (replies_are g (goal.at.returns-clause-replied g c).After-deref-2)

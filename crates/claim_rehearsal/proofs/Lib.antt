@@ -1,0 +1,2 @@
+pub mod PassedRounds
+pub mod SessionPassed

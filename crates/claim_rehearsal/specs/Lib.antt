@@ -1,0 +1,2 @@
+pub mod ClaimRehearsals
+pub mod Passed

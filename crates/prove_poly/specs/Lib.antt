@@ -1,0 +1,2 @@
+pub mod PolyNotes
+pub mod PolyProofs

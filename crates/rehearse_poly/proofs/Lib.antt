@@ -1,0 +1,2 @@
+pub mod HonestSums
+pub mod PolyOutcomes

@@ -1,0 +1,4 @@
+pub mod Opening
+pub mod Ordering
+pub mod LogNames
+pub mod NotesOutcomes

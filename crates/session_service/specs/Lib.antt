@@ -1,0 +1,2 @@
+pub mod ServiceRuns
+pub mod NotesMean
